@@ -1,0 +1,36 @@
+-- `channel::state::Channel::ask` meets its contract.
+use Rattle.channel.specs.Access.{asked}
+use borrow.Author.Needs.{needs}
+use Rattle.channel.proofs.state.Channel.ask.Statement.{statement}
+use Rattle.channel.proofs.state.Channel.ask.Tie as tie
+
+pub ask-spec : {M : Type 1} → statement M
+unfolding asked
+ask-spec =
+    tie.close
+    (tie.spec
+    (λ c. search needs)
+    (λ c. search needs)
+    (λ c. search needs)
+    (λ c. search needs)
+    (λ c. search needs)
+    (λ c. search needs)
+    (λ c. search needs)
+    (λ c. search needs)
+    (λ c. search needs)
+    (λ c. search needs)
+    (λ c. search needs)
+    (λ c. search needs)
+    (λ c. search needs)
+    (λ c. search needs)
+    (λ c. search needs)
+    (λ c. search needs)
+    (λ c. search needs)
+    (λ c. search needs)
+    (λ c. rw (c .before .enum-told .given .1, c .refuse .ensures))
+    (λ c. rw (c .before .enum-told2 .given .1, c .refuse2 .ensures))
+    (λ c. rw (c .before .enum-told3 .given .1, c .begin .ensures))
+    (λ c. rw (c .before .before .enum-told4 .given .1, c .refuse3 .ensures, c .before .to-waiting .ensures))
+    (λ c. rw (c .before .before .enum-told5 .given .1, c .refuse4 .ensures, c .before .record-sto .ensures))
+    (λ c. rw (c .before .before .enum-told6 .given .1, c .refuse5 .ensures, c .before .record-seq .ensures))
+    (λ c. rw (c .before .before .enum-told7 .given .1, c .refuse6 .ensures, c .before .end-by .ensures)))

@@ -1,0 +1,17 @@
+-- `channel::state::Channel::begin` meets its contract.
+use Rattle.channel.specs.Wires.{begun}
+use borrow.Author.Needs.{needs}
+use Rattle.channel.proofs.state.Channel.begin.Statement.{statement}
+use Rattle.channel.proofs.state.Channel.begin.Tie as tie
+
+pub begin-spec : {M : Type 1} → statement M
+unfolding begun
+begin-spec =
+    tie.close
+    (tie.spec
+    (λ c. search needs)
+    (λ c. search needs)
+    (λ c. search needs)
+    (λ c. search needs)
+    (λ c. search needs)
+    (λ c. cc))

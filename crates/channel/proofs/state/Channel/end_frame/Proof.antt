@@ -1,0 +1,16 @@
+-- `channel::state::Channel::end_frame` meets its contract.
+use Rattle.channel.specs.Wires.{frameEnded}
+use borrow.Author.Needs.{needs}
+use Rattle.channel.proofs.state.Channel.end_frame.Statement.{statement}
+use Rattle.channel.proofs.state.Channel.end_frame.Tie as tie
+
+pub end-frame-spec : {M : Type 1} → statement M
+unfolding frameEnded
+end-frame-spec =
+    tie.close
+    (tie.spec
+    (λ c. search needs)
+    (λ c. search needs)
+    (λ c. search needs)
+    (λ c. search needs)
+    (λ c. cc))

@@ -1,0 +1,15 @@
+-- `channel::state::Channel::offset` meets its contract.
+use borrow.Author.Needs.{needs}
+use Rattle.channel.proofs.state.Channel.offset.Statement.{statement}
+use Rattle.channel.proofs.state.Channel.offset.Tie as tie
+
+pub offset-spec : {M : Type 1} → statement M
+offset-spec =
+    tie.close
+    (tie.spec
+    (λ c. search needs)
+    (λ c. search needs)
+    (λ c. search needs)
+    (λ c. search needs)
+    (λ c. search needs)
+    (λ c. cc))

@@ -1,0 +1,13 @@
+-- `channel::state::Channel::read_chstatus` meets its contract.
+use borrow.Author.Needs.{needs}
+use Rattle.channel.proofs.state.Channel.read_chstatus.Statement.{statement}
+use Rattle.channel.proofs.state.Channel.read_chstatus.Tie as tie
+
+pub read-chstatus-spec : {M : Type 1} → statement M
+read-chstatus-spec =
+    tie.close
+    (tie.spec
+    (λ c. search needs)
+    (λ c. search needs)
+    (λ c. search needs)
+    (λ c. rw (c .reply .ensures, c .before .clear-flags .ensures, c .before .before .chstatus-value .ensures)))

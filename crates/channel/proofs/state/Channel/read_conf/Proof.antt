@@ -1,0 +1,14 @@
+-- `channel::state::Channel::read_conf` meets its contract.
+use borrow.Author.Needs.{needs}
+use Rattle.channel.proofs.state.Channel.read_conf.Statement.{statement}
+use Rattle.channel.proofs.state.Channel.read_conf.Tie as tie
+
+pub read-conf-spec : {M : Type 1} → statement M
+read-conf-spec =
+    tie.close
+    (tie.spec
+    (λ c. search needs)
+    (λ c. search needs)
+    (λ c. search needs)
+    (λ c. search needs)
+    (λ c. rw (c .reply .ensures, c .before .point-conf .ensures)))

@@ -1,0 +1,13 @@
+-- `channel::state::Channel::read_control` meets its contract.
+use borrow.Author.Needs.{needs}
+use Rattle.channel.proofs.state.Channel.read_control.Statement.{statement}
+use Rattle.channel.proofs.state.Channel.read_control.Tie as tie
+
+pub read-control-spec : {M : Type 1} → statement M
+read-control-spec =
+    tie.close
+    (tie.spec
+    (λ c. search needs)
+    (λ c. search needs)
+    (λ c. search needs)
+    (λ c. cc))

@@ -1,0 +1,14 @@
+-- `channel::state::Channel::read_count` meets its contract.
+use borrow.Author.Needs.{needs}
+use Rattle.channel.proofs.state.Channel.read_count.Statement.{statement}
+use Rattle.channel.proofs.state.Channel.read_count.Tie as tie
+
+pub read-count-spec : {M : Type 1} → statement M
+read-count-spec =
+    tie.close
+    (tie.spec
+    (λ c. search needs)
+    (λ c. search needs)
+    (λ c. search needs)
+    (λ c. search needs)
+    (λ c. rw (c .reply .ensures, c .before .point-count .ensures)))

@@ -1,0 +1,12 @@
+-- `channel::state::Channel::select` meets its contract.
+use borrow.Author.Needs.{needs}
+use Rattle.channel.proofs.state.Channel.select.Statement.{statement}
+use Rattle.channel.proofs.state.Channel.select.Tie as tie
+
+pub select-spec : {M : Type 1} → statement M
+select-spec =
+    tie.close
+    (tie.spec
+    (λ c. search needs)
+    (λ c. search needs)
+    (λ c. cc))

@@ -1,0 +1,13 @@
+-- `channel::state::Channel::set_modes` meets its contract.
+use borrow.Author.Needs.{needs}
+use Rattle.channel.proofs.state.Channel.set_modes.Statement.{statement}
+use Rattle.channel.proofs.state.Channel.set_modes.Tie as tie
+
+pub set-modes-spec : {M : Type 1} → statement M
+set-modes-spec =
+    tie.close
+    (tie.spec
+    (λ c. search needs)
+    (λ c. search needs)
+    (λ c. search needs)
+    (λ c. cc))

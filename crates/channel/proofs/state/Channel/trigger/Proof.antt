@@ -1,0 +1,14 @@
+-- `channel::state::Channel::trigger` meets its contract.
+use Rattle.channel.specs.Wires.{triggered}
+use borrow.Author.Needs.{needs}
+use Rattle.channel.proofs.state.Channel.trigger.Statement.{statement}
+use Rattle.channel.proofs.state.Channel.trigger.Tie as tie
+
+pub trigger-spec : {M : Type 1} → statement M
+unfolding triggered
+trigger-spec =
+    tie.close
+    (tie.spec
+    (λ c. search needs)
+    (λ c. search needs)
+    (λ c. cc))

@@ -1,0 +1,11 @@
+-- `channel::state::Channel::write_mask` meets its contract.
+use borrow.Author.Needs.{needs}
+use Rattle.channel.proofs.state.Channel.write_mask.Statement.{statement}
+use Rattle.channel.proofs.state.Channel.write_mask.Tie as tie
+
+pub write-mask-spec : {M : Type 1} → statement M
+write-mask-spec =
+    tie.close
+    (tie.spec
+    (λ c. search needs)
+    (λ c. cc))

@@ -1,0 +1,184 @@
+-- Words for the record of a channel: the reset values, what a step answers, and the record with a part replaced.
+use Prim.Native.Nat.{ℕ}
+use mathlib.Core.Bool.{Bool, true, false}
+use mathlib.Core.List.{List, [], _∷_}
+use lib.Dec.{eqb}
+use lib.ListN.{getD, replicate}
+use Rattle.laws.specs.Pick.{if_then_else_}
+use Rattle.rules.specs.declared.state.Phase.{Phase}
+use Rattle.rules.specs.declared.state.Phase.the-variants.{Idle, Stopping, Waiting}
+use Rattle.rules.specs.declared.state.Regs.{Regs}
+use Rattle.rules.specs.declared.state.Flags.{Flags}
+use Rattle.rules.specs.declared.state.Ptrs.{Ptrs}
+use Rattle.rules.specs.declared.state.Walk.{Walk}
+use Rattle.rules.specs.declared.wires.Action.{Action}
+use Rattle.rules.specs.declared.wires.Action.the-variants.{Nothing}
+use Rattle.channel.specs.declared.state.Channel.{Channel}
+use Rattle.channel.specs.declared.state.Stepped.{Stepped}
+
+-- ---- the reset values
+
+-- 4,352 zeros
+unfoldable pub zeros : List ℕ
+zeros = replicate 4352 0
+
+-- CHSTATUS 00h
+abbrev pub noFlags : Flags
+noFlags = record { sd = false; fld = false; we = false; re = false; dae = false; cle = false; sse = false; fe = false }
+
+-- Idle: nothing is recorded, and the number of ended frames is 0
+abbrev pub idle : Walk
+idle = record { phase = Idle; ended = 0; sto = false; seq = false; fe = false; error = false }
+
+-- FRAMECNT 01h, REFRATE 00h, SCLL 5Eh, SCLH 3Fh, MODE 92h, TIMEOUT 00h; all else 00h
+abbrev pub fresh : Channel
+fresh = record {
+  slatable = replicate 64 0;
+  tranconfig = replicate 65 0;
+  status = replicate 64 0;
+  bytecount = replicate 64 0;
+  settings = 0x01 ∷ 0x00 ∷ 0x5E ∷ 0x3F ∷ 0x92 ∷ 0x00 ∷ [];
+  regs = record { intmsk = 0; transel = 0; tranofs = 0; tp = false; te = false };
+  flags = noFlags;
+  ptrs = record { sla = 0; conf = 0; buf = 0; count = 0 };
+  walk = idle;
+  key = false;
+}
+
+-- ---- what a step answers: number, value, action
+
+abbrev pub answered : Channel → ℕ → ℕ → Action → Stepped
+answered c n v a = record { channel = c; answer = record { number = n; value = v; action = a } }
+
+-- only a read answered 0 carries a value, else it is 00h; every answer but 0 has no action
+abbrev pub refused : Channel → ℕ → Stepped
+refused c n = answered c n 0 Nothing
+
+-- done, with no action
+abbrev pub plain : Channel → Stepped
+plain c = refused c 0
+
+-- a read, with its value
+abbrev pub replied : Channel → ℕ → Stepped
+replied c v = answered c 0 v Nothing
+
+-- done, with an action
+abbrev pub acted : Channel → Action → Stepped
+acted c a = answered c 0 0 a
+
+-- refused by a number that is not 0, and otherwise done
+unfoldable pub guarded : ℕ → Channel → Stepped → Stepped
+guarded n c d = if eqb n 0 then d else refused c n
+
+-- ---- what the tables hold
+
+-- the count, entry 0 of TRANCONFIG
+abbrev pub countOf : Channel → ℕ
+countOf c = getD (c .tranconfig) 0 0
+
+-- FRAMECNT
+abbrev pub framecntOf : Channel → ℕ
+framecntOf c = getD (c .settings) 0 0
+
+-- ---- the record with one part replaced
+abbrev pub withSla : Channel → List ℕ → Channel
+withSla c l = record { slatable = l; tranconfig = c .tranconfig; status = c .status; bytecount = c .bytecount; settings = c .settings; regs = c .regs; flags = c .flags; ptrs = c .ptrs; walk = c .walk; key = c .key }
+
+abbrev pub withConf : Channel → List ℕ → Channel
+withConf c l = record { slatable = c .slatable; tranconfig = l; status = c .status; bytecount = c .bytecount; settings = c .settings; regs = c .regs; flags = c .flags; ptrs = c .ptrs; walk = c .walk; key = c .key }
+
+abbrev pub withStatus : Channel → List ℕ → Channel
+withStatus c l = record { slatable = c .slatable; tranconfig = c .tranconfig; status = l; bytecount = c .bytecount; settings = c .settings; regs = c .regs; flags = c .flags; ptrs = c .ptrs; walk = c .walk; key = c .key }
+
+abbrev pub withCounts : Channel → List ℕ → Channel
+withCounts c l = record { slatable = c .slatable; tranconfig = c .tranconfig; status = c .status; bytecount = l; settings = c .settings; regs = c .regs; flags = c .flags; ptrs = c .ptrs; walk = c .walk; key = c .key }
+
+abbrev pub withSettings : Channel → List ℕ → Channel
+withSettings c l = record { slatable = c .slatable; tranconfig = c .tranconfig; status = c .status; bytecount = c .bytecount; settings = l; regs = c .regs; flags = c .flags; ptrs = c .ptrs; walk = c .walk; key = c .key }
+
+abbrev pub withRegs : Channel → Regs → Channel
+withRegs c r = record { slatable = c .slatable; tranconfig = c .tranconfig; status = c .status; bytecount = c .bytecount; settings = c .settings; regs = r; flags = c .flags; ptrs = c .ptrs; walk = c .walk; key = c .key }
+
+abbrev pub withFlags : Channel → Flags → Channel
+withFlags c f = record { slatable = c .slatable; tranconfig = c .tranconfig; status = c .status; bytecount = c .bytecount; settings = c .settings; regs = c .regs; flags = f; ptrs = c .ptrs; walk = c .walk; key = c .key }
+
+abbrev pub withPtrs : Channel → Ptrs → Channel
+withPtrs c p = record { slatable = c .slatable; tranconfig = c .tranconfig; status = c .status; bytecount = c .bytecount; settings = c .settings; regs = c .regs; flags = c .flags; ptrs = p; walk = c .walk; key = c .key }
+
+abbrev pub withWalk : Channel → Walk → Channel
+withWalk c w = record { slatable = c .slatable; tranconfig = c .tranconfig; status = c .status; bytecount = c .bytecount; settings = c .settings; regs = c .regs; flags = c .flags; ptrs = c .ptrs; walk = w; key = c .key }
+
+abbrev pub withKey : Channel → Bool → Channel
+withKey c k = record { slatable = c .slatable; tranconfig = c .tranconfig; status = c .status; bytecount = c .bytecount; settings = c .settings; regs = c .regs; flags = c .flags; ptrs = c .ptrs; walk = c .walk; key = k }
+
+-- ---- one pointer replaced
+abbrev pub slaAt : Channel → ℕ → Channel
+slaAt c n = withPtrs c (record { sla = n; conf = c .ptrs .conf; buf = c .ptrs .buf; count = c .ptrs .count })
+
+abbrev pub confAt : Channel → ℕ → Channel
+confAt c n = withPtrs c (record { sla = c .ptrs .sla; conf = n; buf = c .ptrs .buf; count = c .ptrs .count })
+
+abbrev pub dataAt : Channel → ℕ → Channel
+dataAt c n = withPtrs c (record { sla = c .ptrs .sla; conf = c .ptrs .conf; buf = n; count = c .ptrs .count })
+
+abbrev pub countAt : Channel → ℕ → Channel
+countAt c n = withPtrs c (record { sla = c .ptrs .sla; conf = c .ptrs .conf; buf = c .ptrs .buf; count = n })
+
+-- ---- registers replaced
+abbrev pub maskSet : Channel → ℕ → Channel
+maskSet c n = withRegs c (record { intmsk = n; transel = c .regs .transel; tranofs = c .regs .tranofs; tp = c .regs .tp; te = c .regs .te })
+
+abbrev pub placeSet : Channel → ℕ → ℕ → Channel
+placeSet c v o = withRegs c (record { intmsk = c .regs .intmsk; transel = v; tranofs = o; tp = c .regs .tp; te = c .regs .te })
+
+abbrev pub modeSet : Channel → Bool → Bool → Channel
+modeSet c tp te = withRegs c (record { intmsk = c .regs .intmsk; transel = c .regs .transel; tranofs = c .regs .tranofs; tp = tp; te = te })
+
+-- ---- flags of CHSTATUS set
+abbrev pub sdSet : Channel → Channel
+sdSet c = withFlags c (record { sd = true; fld = c .flags .fld; we = c .flags .we; re = c .flags .re; dae = c .flags .dae; cle = c .flags .cle; sse = c .flags .sse; fe = c .flags .fe })
+
+abbrev pub sdFldSet : Channel → Bool → Channel
+sdFldSet c fld = withFlags c (record { sd = true; fld = fld; we = c .flags .we; re = c .flags .re; dae = c .flags .dae; cle = c .flags .cle; sse = c .flags .sse; fe = c .flags .fe })
+
+abbrev pub weSet : Channel → Channel
+weSet c = withFlags c (record { sd = c .flags .sd; fld = c .flags .fld; we = true; re = c .flags .re; dae = c .flags .dae; cle = c .flags .cle; sse = c .flags .sse; fe = c .flags .fe })
+
+abbrev pub reSet : Channel → Channel
+reSet c = withFlags c (record { sd = c .flags .sd; fld = c .flags .fld; we = c .flags .we; re = true; dae = c .flags .dae; cle = c .flags .cle; sse = c .flags .sse; fe = c .flags .fe })
+
+abbrev pub daeSet : Channel → Channel
+daeSet c = withFlags c (record { sd = c .flags .sd; fld = c .flags .fld; we = c .flags .we; re = c .flags .re; dae = true; cle = c .flags .cle; sse = c .flags .sse; fe = c .flags .fe })
+
+abbrev pub cleSet : Channel → Channel
+cleSet c = withFlags c (record { sd = c .flags .sd; fld = c .flags .fld; we = c .flags .we; re = c .flags .re; dae = c .flags .dae; cle = true; sse = c .flags .sse; fe = c .flags .fe })
+
+abbrev pub sseSet : Channel → Channel
+sseSet c = withFlags c (record { sd = c .flags .sd; fld = c .flags .fld; we = c .flags .we; re = c .flags .re; dae = c .flags .dae; cle = c .flags .cle; sse = true; fe = c .flags .fe })
+
+abbrev pub feSet : Channel → Channel
+feSet c = withFlags c (record { sd = c .flags .sd; fld = c .flags .fld; we = c .flags .we; re = c .flags .re; dae = c .flags .dae; cle = c .flags .cle; sse = c .flags .sse; fe = true })
+
+-- ---- the walk: the phase, and what is recorded
+abbrev pub phaseSet : Channel → Phase → Channel
+phaseSet c p = withWalk c (record { phase = p; ended = c .walk .ended; sto = c .walk .sto; seq = c .walk .seq; fe = c .walk .fe; error = c .walk .error })
+
+abbrev pub idled : Channel → Channel
+idled c = withWalk c idle
+
+-- Waiting, with n frames ended and nothing recorded
+abbrev pub waited : Channel → ℕ → Channel
+waited c n = withWalk c (record { phase = Waiting; ended = n; sto = false; seq = false; fe = false; error = false })
+
+abbrev pub stoRecorded : Channel → Channel
+stoRecorded c = withWalk c (record { phase = c .walk .phase; ended = c .walk .ended; sto = true; seq = c .walk .seq; fe = c .walk .fe; error = c .walk .error })
+
+abbrev pub seqRecorded : Channel → Channel
+seqRecorded c = withWalk c (record { phase = c .walk .phase; ended = c .walk .ended; sto = c .walk .sto; seq = true; fe = c .walk .fe; error = c .walk .error })
+
+abbrev pub feRecorded : Channel → Channel
+feRecorded c = withWalk c (record { phase = c .walk .phase; ended = c .walk .ended; sto = c .walk .sto; seq = c .walk .seq; fe = true; error = c .walk .error })
+
+-- Stopping, an error end noted
+abbrev pub errorNoted : Channel → Channel
+errorNoted c = withWalk c (record { phase = Stopping; ended = c .walk .ended; sto = c .walk .sto; seq = c .walk .seq; fe = c .walk .fe; error = true })

@@ -1,0 +1,11 @@
+// One channel of the PCA9663: its record, and the step over it.
+mod access;
+mod range;
+mod state;
+mod step;
+mod wires;
+
+pub use state::Answer;
+pub use state::Channel;
+pub use state::Stepped;
+pub use step::Op;

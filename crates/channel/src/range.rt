@@ -1,0 +1,26 @@
+// Document 01, 'Out of range': whether a channel's record is in range.
+ghost use mathlib.Core.Path.{_≡_};
+ghost use Rattle.channel.specs.Range.{inRange};
+use crate::state::Channel;
+
+impl Channel {
+    pub fn in_range(self) -> bool
+        ensures { λ r. ⌜ r ≡ inRange self ⌝ }
+    {
+        let w = self.walk;
+        let phase = w.phase;
+        if rules::pointers_in(self.ptrs) {
+            if rules::registers_in(self.tranconfig[0], self.regs.transel, self.regs.intmsk) {
+                if rules::walk_in(w, self.regs.te, self.settings[0]) {
+                    rules::frame_in(phase, &self.slatable, &self.tranconfig, &self.bytecount)
+                } else {
+                    false
+                }
+            } else {
+                false
+            }
+        } else {
+            false
+        }
+    }
+}

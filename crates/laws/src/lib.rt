@@ -1,0 +1,1 @@
+// No code: the definitions and laws of specs/ serve the crates above.

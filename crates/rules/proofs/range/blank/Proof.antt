@@ -1,0 +1,16 @@
+-- `rules::range::blank` meets its contract.
+use Rattle.laws.specs.Cases.{cases}
+use Rattle.rules.specs.Range.{blankOf}
+use Rattle.rules.proofs.range.blank.Statement.{statement}
+use Rattle.rules.proofs.range.blank.Tie as tie
+
+pub blank-spec : {M : Type 1} → statement M
+unfolding blankOf
+blank-spec =
+    tie.close
+    (tie.spec
+    (λ c. search cases depth 12)
+    (λ c. search cases depth 12)
+    (λ c. search cases depth 12)
+    (λ c. search cases depth 12)
+    (λ c. search cases depth 12))

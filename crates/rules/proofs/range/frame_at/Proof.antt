@@ -1,0 +1,17 @@
+-- `rules::range::frame_at` meets its contract.
+use Rattle.laws.specs.Cases.{cases}
+use Rattle.rules.specs.Laws.Range.{ranges}
+use Rattle.rules.specs.Range.{frameAt}
+use borrow.Author.Needs.{needs}
+use Rattle.rules.proofs.range.frame_at.Statement.{statement}
+use Rattle.rules.proofs.range.frame_at.Tie as tie
+
+pub frame-at-spec : {M : Type 1} → statement M
+unfolding frameAt
+frame-at-spec =
+    tie.close
+    (tie.spec
+    (λ c. search needs)
+    (λ c. search ranges)
+    (λ c. search cases depth 12)
+    (λ c. search cases depth 12))

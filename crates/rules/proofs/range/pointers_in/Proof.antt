@@ -1,0 +1,16 @@
+-- `rules::range::pointers_in` meets its contract.
+use Rattle.laws.specs.Cases.{cases}
+use Rattle.rules.specs.Range.{pointersIn}
+use Rattle.rules.proofs.range.pointers_in.Statement.{statement}
+use Rattle.rules.proofs.range.pointers_in.Tie as tie
+
+pub pointers-in-spec : {M : Type 1} → statement M
+unfolding pointersIn
+pointers-in-spec =
+    tie.close
+    (tie.spec
+    (λ c. search cases depth 12)
+    (λ c. search cases depth 12)
+    (λ c. search cases depth 12)
+    (λ c. search cases depth 12)
+    (λ c. search cases depth 12))

@@ -1,0 +1,19 @@
+-- `rules::range::stands` meets its contract.
+use Rattle.laws.specs.Cases.{cases}
+use Rattle.rules.specs.Range.{standing}
+use borrow.Author.Needs.{needs}
+use Rattle.rules.proofs.range.stands.Statement.{statement}
+use Rattle.rules.proofs.range.stands.Tie as tie
+
+pub stands-spec : {M : Type 1} → statement M
+unfolding standing
+stands-spec =
+    tie.close
+    (tie.spec
+    (λ c. search needs)
+    (λ c. search needs)
+    (λ c. search needs)
+    (λ c. search needs)
+    (λ c. search cases depth 12)
+    (λ c. search cases depth 12)
+    (λ c. search cases depth 12))

@@ -1,0 +1,6 @@
+pub mod Registers
+pub mod Tables
+pub mod Access
+pub mod Range
+pub mod Wires
+pub mod Laws

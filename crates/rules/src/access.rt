@@ -1,0 +1,151 @@
+// Document 01, 'Numbers that an answer carries': refusals of an access to a register, pointers, and the reset key.
+ghost use mathlib.Core.Path.{_≡_};
+ghost use Prim.Native.Nat.{ℕ, _+_, _<_, _≤_};
+ghost use Rattle.rules.specs.Tables.{startOf};
+ghost use Rattle.rules.specs.Access.{busyRefusal, lockedOf, pastRefusal, tooMany, placeRefusal, slaRefusal, confRefusal, dataRefusal, selRefusal, keptIf, rewound, atMost, pointedAt, overrunOf, presetOf, keyAfter, resetsOf};
+use crate::registers::Register;
+use crate::registers::active;
+use crate::state::Phase;
+use crate::tables::start_of;
+
+// ---- the number that refuses an access, or 0
+
+pub fn busy_refusal(p: Phase) -> u8
+    ensures { λ r. ⌜ r ≡ busyRefusal p ⌝ }
+{
+    if active(p) { 3 } else { 0 }
+}
+
+fn locked(p: Phase, at: usize) -> bool
+    ensures { λ r. ⌜ r ≡ lockedOf p at ⌝ }
+{
+    match p {
+        Phase::Idle => false,
+        Phase::Address(_) => true,
+        Phase::Sending(_) => true,
+        Phase::Receiving(_) => true,
+        Phase::Stopping => true,
+        Phase::Waiting => 0 < at,
+    }
+}
+
+pub fn past_refusal(last: usize, at: usize) -> u8
+    ensures { λ r. ⌜ r ≡ pastRefusal last at ⌝ }
+{
+    if last < at { 4 } else { 0 }
+}
+
+fn too_many(at: usize, v: u8) -> bool
+    ensures { λ r. ⌜ r ≡ tooMany at v ⌝ }
+{
+    if at == 0 { 64 < v } else { false }
+}
+
+pub fn place_refusal(at: usize) -> u8
+    ensures { λ r. ⌜ r ≡ placeRefusal at ⌝ }
+{
+    if at < 4352 { 0 } else { 5 }
+}
+
+pub fn sla_refusal(p: Phase, at: usize) -> u8
+    ensures { λ r. ⌜ r ≡ slaRefusal p at ⌝ }
+{
+    if active(p) { 3 } else { past_refusal(63, at) }
+}
+
+pub fn conf_refusal(p: Phase, at: usize, v: u8) -> u8
+    ensures { λ r. ⌜ r ≡ confRefusal p at v ⌝ }
+{
+    if locked(p, at) {
+        return 3;
+    }
+    if 64 < at {
+        return 4;
+    }
+    if too_many(at, v) { 6 } else { 0 }
+}
+
+pub fn data_refusal(p: Phase, at: usize) -> u8
+    ensures { λ r. ⌜ r ≡ dataRefusal p at ⌝ }
+{
+    if active(p) { 3 } else { place_refusal(at) }
+}
+
+pub fn sel_refusal(lens: &[u8; 65], v: u8) -> u8
+    ensures { λ r. ⌜ r ≡ selRefusal (now (lens .entry)) v ⌝ }
+{
+    if 63 < v {
+        return 5;
+    }
+    let start = start_of(lens, v as usize);
+    place_refusal(start)
+}
+
+// ---- a write to CONTROL: TP and TE, and the pointers
+
+pub fn kept_if(active: bool, old: bool, new: bool) -> bool
+    ensures { λ r. ⌜ r ≡ keptIf active old new ⌝ }
+{
+    if active { old } else { new }
+}
+
+pub fn rewind(reset: bool, at: usize) -> usize
+    ensures { λ r. ⌜ r ≡ rewound reset at ⌝ }
+{
+    if reset { 0 } else { at }
+}
+
+fn at_most(place: usize) -> usize
+    ensures { λ r. ⌜ r ≡ atMost place ⌝ }
+{
+    if place < 4352 { place } else { 4352 }
+}
+
+pub fn point_at(aiptrrst: bool, place: usize, at: usize) -> usize
+    ensures { λ r. ⌜ r ≡ pointedAt aiptrrst place at ⌝ }
+{
+    if aiptrrst { at_most(place) } else { at }
+}
+
+pub fn overrun(aiptrrst: bool, place: usize) -> bool
+    ensures { λ r. ⌜ r ≡ overrunOf aiptrrst place ⌝ }
+{
+    if aiptrrst { 4352 <= place } else { false }
+}
+
+// ---- the key of PRESET
+
+fn is_preset(reg: Register) -> bool
+    ensures { λ r. ⌜ r ≡ presetOf reg ⌝ }
+{
+    match reg {
+        Register::Status(_) => false,
+        Register::Control => false,
+        Register::Chstatus => false,
+        Register::Intmsk => false,
+        Register::Slatable => false,
+        Register::Tranconfig => false,
+        Register::Data => false,
+        Register::Transel => false,
+        Register::Tranofs => false,
+        Register::Bytecount => false,
+        Register::Setting(_) => false,
+        Register::Preset => true,
+    }
+}
+
+pub fn key_after(reg: Register, v: u8) -> bool
+    ensures { λ r. ⌜ r ≡ keyAfter reg v ⌝ }
+{
+    if is_preset(reg) { v == 0xA5 } else { false }
+}
+
+pub fn resets(reg: Register, v: u8, key: bool) -> bool
+    ensures { λ r. ⌜ r ≡ resetsOf reg v key ⌝ }
+{
+    if is_preset(reg) {
+        if key { v == 0x5A } else { false }
+    } else {
+        false
+    }
+}

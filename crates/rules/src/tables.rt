@@ -1,0 +1,75 @@
+// What the tables say: starts, skipped transactions, and the first that is not skipped.
+ghost use mathlib.Core.Path.{_≡_};
+ghost use Prim.Native.Nat.{ℕ, _+_, _-_, _*_, _<_, _≤_};
+ghost use Rattle.rules.specs.Tables.{startOf, fitting, readsOf, skippedOf, firstSent, marked};
+
+// A byte as an index: the number, and that it is below 256, which a caller's arithmetic wants.
+pub fn byte(x: u8) -> usize
+    ensures { λ r. ⌜ (r ≡ x) × (r < 256) ⌝ }
+{
+    x as usize
+}
+
+// Where transaction v starts in the buffer: the sum of the v lengths before it.
+pub fn start_of(lens: &[u8; 65], v: usize) -> usize
+    requires { ⌜ v ≤ 64 ⌝ }
+    ensures { λ r. ⌜ (r ≡ startOf (now (lens .entry)) v) × (r ≤ 255 * v) ⌝ }
+{
+    let mut sum: usize = 0;
+    let mut i: usize = 0;
+    while i < v {
+        i += 1;
+        sum += byte(lens[i]);
+    }
+    sum
+}
+
+// Whether the lengths of the first count transactions fit the buffer.
+pub fn fits(lens: &[u8; 65], count: usize) -> bool
+    requires { ⌜ count ≤ 64 ⌝ }
+    ensures { λ r. ⌜ r ≡ fitting (now (lens .entry)) count ⌝ }
+{
+    start_of(lens, count) <= 4352
+}
+
+pub fn reads(sla: u8) -> bool
+    ensures { λ r. ⌜ r ≡ readsOf sla ⌝ }
+{
+    sla % 2 == 1
+}
+
+// A read of length 0 is skipped as done.
+pub fn skipped(sla: u8, len: u8) -> bool
+    ensures { λ r. ⌜ r ≡ skippedOf sla len ⌝ }
+{
+    if reads(sla) { len == 0 } else { false }
+}
+
+// The first transaction from `from` that is not skipped, or the count.
+pub fn first_sent<'a>(sla: &'a [u8; 64], lens: &'a [u8; 65], from: usize, count: usize) -> usize
+    requires { ⌜ (from ≤ count) × (count ≤ 64) ⌝ }
+    ensures { λ r. ⌜ (r ≡ firstSent (now (sla .entry)) (now (lens .entry)) from count) × (from ≤ r) × (r ≤ count) ⌝ }
+{
+    let mut i = from;
+    loop {
+        if count <= i {
+            break count;
+        }
+        if !skipped(sla[i], lens[i + 1]) {
+            break i;
+        }
+        i += 1;
+    }
+}
+
+// STATUS 02h at each place from `from` to before `to`.
+pub fn mark(status: &mut [u8; 64], from: usize, to: usize)
+    requires { ⌜ (from ≤ to) × (to ≤ 64) ⌝ }
+    ensures { λ _. ⌜ now (status .exit) ≡ marked (now (status .entry)) from to ⌝ }
+{
+    let mut i = from;
+    while i < to {
+        status[i] = 0x02;
+        i += 1;
+    }
+}
