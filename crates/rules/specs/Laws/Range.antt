@@ -1,15 +1,22 @@
 -- What the range's clauses say.
 use mathlib.Core.Bool.{Bool, true, false}
 use mathlib.Core.List.{List}
-use mathlib.Core.Path.{_≡_, sym, _∙_}
-use Prim.Native.Nat.{ℕ, _+_, _/_, _%_, _<_, _≤_}
+use mathlib.Core.Path.{_≡_, refl, sym, _∙_}
+use mathlib.Core.Logic.{⊎-elim}
+use Prim.Native.Nat.{ℕ, zero, suc, _+_, _-_, _/_, _%_, _<_, _≤_}
 use native.Mathlib.Omega.{arith}
+use native.Mathlib.Nat.{eq-or-lt-of-le}
 use borrow.Author.Needs.{needs}
-use borrow.Author.Tests.{eq-eqb, ne-eqb, ltb-true, ltb-false, eqb-true}
-use lib.ListN.{getD}
+use borrow.Author.Tests.{eq-eqb, ne-eqb, lt-ltb, le-ltb, ltb-true, ltb-false, eqb-true}
+use lib.ListN.{getD, set}
+use lib.Seq.{getD-set-other}
+use lib.Dec.{eqb}
 use Rattle.laws.specs.Pick.{if_then_else_}
-use Rattle.laws.specs.Cases.{past, both, left-more, left-none}
-use Rattle.rules.specs.Range.{registersIn, clearFrom, clearAfter, standing}
+use Rattle.laws.specs.Cases.{past, both, on, with, left-more, left-none}
+use Rattle.rules.specs.declared.state.Ptrs.{Ptrs}
+use Rattle.rules.specs.Range.{pointersIn, registersIn, clearFrom, clearAfter, currentAt, standing}
+use Rattle.rules.specs.Tables.{fitting, skippedOf, firstSent}
+use Rattle.rules.specs.Laws.Tables.{first-from, first-unskipped}
 
 -- ---- clearAfter: the loop's three ways
 pub clear-end : (l : List ℕ) (i : ℕ) (r : Bool) → r ≡ clearAfter l i → 64 ≤ i → true ≡ r
@@ -47,3 +54,109 @@ module _ (count sel mask : ℕ) (e : registersIn count sel mask ≡ true) where
   pub registers-mask : mask / 2 % 8 ≡ 0
   unfolding registersIn
   registers-mask = eqb-true _ _ (past _ _ (past _ _ e .1) .1)
+
+-- ---- clearAfter, entry by entry
+clear-from : (l : List ℕ) (i left k : ℕ) → clearFrom l i left ≡ true → i ≤ k → k < i + left → getD l k 0 ≡ 0
+unfolding clearFrom
+clear-from l i zero k e h g = absurd (omega arith)
+clear-from l i (suc left) k e h g =
+    let b = both (eqb (getD l i 0) 0) _ e in
+    ⊎-elim
+    (λ (q : i ≡ k). rw (← q) (eqb-true _ _ (b .0)))
+    (λ (n : i < k). clear-from l (i + 1) left k (b .1) (omega arith) (omega arith))
+    (eq-or-lt-of-le h)
+
+pub clear-at : (l : List ℕ) (i k : ℕ) → clearAfter l i ≡ true → i ≤ k → k < 64 → getD l k 0 ≡ 0
+clear-at l i k e h g = clear-from l i (64 - i) k e h (omega arith)
+
+from-clear : (l : List ℕ) (i left : ℕ) → ((k : ℕ) → i ≤ k → k < i + left → getD l k 0 ≡ 0) → clearFrom l i left ≡ true
+unfolding clearFrom
+from-clear l i zero f = refl
+from-clear l i (suc left) f =
+    with _ _ (eq-eqb (getD l i 0) 0 (f i (omega arith) (omega arith)))
+    (from-clear l (i + 1) left (λ k h g. f k (omega arith) (omega arith)))
+
+pub at-clear : (l : List ℕ) (i : ℕ) → i ≤ 64 → ((k : ℕ) → i ≤ k → k < 64 → getD l k 0 ≡ 0) → clearAfter l i ≡ true
+at-clear l i b f = from-clear l i (64 - i) (λ k h g. f k h (omega arith))
+
+-- ---- a frame that stands at transaction n, as facts
+pub record Stands (sla lens counts : List ℕ) (n : ℕ) : Type 0 where
+  pub below : n < getD lens 0 0
+  pub few : getD lens 0 0 ≤ 64
+  pub fits : fitting lens (getD lens 0 0) ≡ true
+  pub sent : skippedOf (getD sla n 0) (getD lens (n + 1) 0) ≡ false
+  pub clear : (k : ℕ) → n < k → k < 64 → getD counts k 0 ≡ 0
+
+pub stands-of : (sla lens counts : List ℕ) (n : ℕ) → getD lens 0 0 ≤ 64 → standing n sla lens counts ≡ true → Stands sla lens counts n
+unfolding standing currentAt
+stands-of sla lens counts n few e =
+    let a = both _ _ e in
+    let b = both _ _ (a .1) in
+    let c = past _ _ (b .1) in
+    record {
+      below = ltb-true _ _ (a .0);
+      few = few;
+      fits = b .0;
+      sent = c .0;
+      clear = λ k h g. clear-at counts (n + 1) k (c .1) (omega arith) g;
+    }
+
+pub of-stands : (sla lens counts : List ℕ) (n : ℕ) → Stands sla lens counts n → standing n sla lens counts ≡ true
+unfolding standing currentAt
+of-stands sla lens counts n s =
+    with _ _ (lt-ltb _ _ (s .below))
+    (with _ _ (s .fits)
+    (on _ _ (s .sent) (at-clear counts (n + 1) (omega arith) (λ k h g. s .clear k (omega arith) g))))
+
+-- the first transaction from `from` that is not skipped stands, where nothing is counted from there on
+pub first-stands : (sla lens counts : List ℕ) (from : ℕ) → getD lens 0 0 ≤ 64 → fitting lens (getD lens 0 0) ≡ true
+    → ((k : ℕ) → from ≤ k → k < 64 → getD counts k 0 ≡ 0)
+    → firstSent sla lens from (getD lens 0 0) < getD lens 0 0
+    → Stands sla lens counts (firstSent sla lens from (getD lens 0 0))
+first-stands sla lens counts from few fits clear h =
+    let g = first-from sla lens from (getD lens 0 0) in
+    record {
+      below = h;
+      few = few;
+      fits = fits;
+      sent = first-unskipped sla lens from (getD lens 0 0) h;
+      clear = λ k a b. clear k (omega arith) b;
+    }
+
+-- the count of transaction n itself is not asked
+pub stands-counted : (sla lens counts : List ℕ) (n v : ℕ) → Stands sla lens counts n → Stands sla lens (set counts n v) n
+stands-counted sla lens counts n v s = record {
+  below = s .below;
+  few = s .few;
+  fits = s .fits;
+  sent = s .sent;
+  clear = λ k h g. getD-set-other counts n k v 0 (λ e. omega arith) ∙ s .clear k h g;
+}
+
+-- ---- the pointers, as facts
+pub record Points (p : Ptrs) : Type 0 where
+  pub sla : p .sla ≤ 64
+  pub count : p .count ≤ 64
+  pub conf : p .conf ≤ 65
+  pub buf : p .buf ≤ 4352
+
+pub points-of : (p : Ptrs) → pointersIn p ≡ true → Points p
+unfolding pointersIn
+points-of p e =
+    let a = past _ _ e in
+    let b = past _ _ (a .1) in
+    let c = past _ _ (b .1) in
+    record {
+      sla = ltb-false _ _ (a .0);
+      count = ltb-false _ _ (b .0);
+      conf = ltb-false _ _ (c .0);
+      buf = ltb-false _ _ (past _ _ (c .1) .0);
+    }
+
+pub of-points : (p : Ptrs) → Points p → pointersIn p ≡ true
+unfolding pointersIn
+of-points p h = on _ _ (le-ltb _ _ (h .sla)) (on _ _ (le-ltb _ _ (h .count)) (on _ _ (le-ltb _ _ (h .conf)) (on _ _ (le-ltb _ _ (h .buf)) refl)))
+
+pub of-registers : (count sel mask : ℕ) → count ≤ 64 → sel ≤ 63 → mask / 2 % 8 ≡ 0 → registersIn count sel mask ≡ true
+unfolding registersIn
+of-registers count sel mask a b e = on _ _ (le-ltb _ _ a) (on _ _ (le-ltb _ _ b) (eq-eqb _ _ e))

@@ -10,7 +10,7 @@ use borrow.Author.Needs.{needs}
 use borrow.Author.Tests.{not-false, not-true}
 use lib.ListN.{getD, set}
 use Rattle.laws.specs.Pick.{if_then_else_}
-use Rattle.laws.specs.Cases.{left-more, left-none}
+use Rattle.laws.specs.Cases.{left-more, left-none, pick-holds}
 use Rattle.rules.specs.Tables.{startOf, skippedOf, sentFrom, firstSent, markFrom, marked, Running}
 
 -- ---- startOf
@@ -64,3 +64,31 @@ start-next l i n h =
     let e : n ≡ (i + 1) + (n - (i + 1)) = omega arith in
     let g = start-add l (i + 1) (n - (i + 1)) in
     rw (start-more l i _ _ refl refl) (rw e g)
+
+-- ---- the transaction that firstSent finds is not skipped
+sent-from : (s l : List ℕ) (i left : ℕ) → i ≤ sentFrom s l i left
+unfolding sentFrom
+sent-from s l i zero = omega arith
+sent-from s l i (suc left) =
+    pick-holds (λ (n : ℕ). i ≤ n) (skippedOf (getD s i 0) (getD l (i + 1) 0)) (λ _. let h = sent-from s l (i + 1) left in omega arith) (λ _. omega arith)
+
+pub first-from : (s l : List ℕ) (from n : ℕ) → from ≤ firstSent s l from n
+first-from s l from n = sent-from s l from (n - from)
+
+Unskipped : List ℕ → List ℕ → ℕ → Type 0
+Unskipped s l n = skippedOf (getD s n 0) (getD l (n + 1) 0) ≡ false
+
+sent-unskipped : (s l : List ℕ) (i left : ℕ) → sentFrom s l i left < i + left → Unskipped s l (sentFrom s l i left)
+unfolding sentFrom Unskipped
+sent-unskipped s l i zero h = absurd (omega arith)
+sent-unskipped s l i (suc left) h =
+    pick-holds (λ (n : ℕ). n < i + suc left → Unskipped s l n) (skippedOf (getD s i 0) (getD l (i + 1) 0))
+    (λ e k. sent-unskipped s l (i + 1) left (omega arith))
+    (λ e k. e)
+    h
+
+pub first-unskipped : (s l : List ℕ) (from n : ℕ) → firstSent s l from n < n → skippedOf (getD s (firstSent s l from n) 0) (getD l (firstSent s l from n + 1) 0) ≡ false
+unfolding Unskipped
+first-unskipped s l from n h =
+    let k = first-from s l from n in
+    sent-unskipped s l from (n - from) (omega arith)

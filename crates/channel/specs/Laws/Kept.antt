@@ -1,0 +1,368 @@
+-- No step leads out of range, and a step keeps the number of bytes.
+use mathlib.Core.Bool.{Bool, true, false, not}
+use mathlib.Core.List.{List, [], _∷_}
+use mathlib.Core.Path.{_≡_, refl, sym, _∙_}
+use Prim.Native.Nat.{ℕ, zero, suc, _+_, _/_, _%_, _<_, _≤_}
+use native.Mathlib.Omega.{arith}
+use borrow.Author.Tests.{eqb-true, eq-eqb, ltb-true, ltb-false, leb-false}
+use lib.Dec.{eqb, ltb}
+use lib.ListN.{length, getD, set, length-set, length-replicate}
+use Rattle.laws.specs.Pick.{if_then_else_}
+use Rattle.laws.specs.Cases.{pick-holds, past, both, with, false-not-true, not-refused, accepted}
+use Rattle.rules.specs.declared.state.Phase.{Phase}
+use Rattle.rules.specs.declared.state.Phase.the-variants.{Idle, Address, Sending, Receiving, Stopping, Waiting}
+use Rattle.rules.specs.declared.state.Walk.{Walk}
+use Rattle.rules.specs.declared.registers.Command.{Command}
+use Rattle.rules.specs.declared.registers.Register.{Register}
+use Rattle.rules.specs.declared.registers.Register.the-variants.{Status, Control, Chstatus, Intmsk, Slatable, Tranconfig, Data, Transel, Tranofs, Bytecount, Setting, Preset}
+use Rattle.rules.specs.declared.registers.Place.{Place}
+use Rattle.rules.specs.declared.registers.Place.the-variants.{Here, Elsewhere}
+use Rattle.rules.specs.declared.wires.Event.{Event}
+use Rattle.rules.specs.declared.wires.Turn.{Turn}
+use Rattle.rules.specs.declared.wires.Turn.the-variants.{Unawaited, AckAddress, AckSending, NackAddress, NackSending, Receive, Begin as BeginTurn, Late, End, Fault}
+use Rattle.rules.specs.declared.wires.Ask.{Ask}
+use Rattle.rules.specs.declared.wires.Ask.the-variants.{Nothing, Overrun, Begin, Wait, Sto, Seq, Leave}
+use Rattle.rules.specs.Registers.{activeOf, commandOf, maskKept, placeOf}
+use Rattle.rules.specs.Tables.{startOf}
+use Rattle.rules.specs.Access.{lockedOf, tooMany, keptIf, rewound, atMost, pointedAt, overrunOf, keyAfter, resetsOf}
+use Rattle.rules.specs.Range.{pointersIn, registersIn, countingOf, endedIn, blankOf, recordedIn, walkIn, frameIn}
+use Rattle.rules.specs.Wires.{startAsked, stopAsked, leaveAsked, askedIn, askOf}
+use Rattle.rules.specs.Laws.Access.{not-busy, not-past, placed, sla-open, conf-open, data-open, sel-open}
+use Rattle.rules.specs.Laws.Range.{Points, points-of, of-points, of-registers, registers-count, registers-sel, registers-mask}
+use Rattle.channel.specs.declared.state.Channel.{Channel}
+use Rattle.channel.specs.declared.state.Stepped.{Stepped}
+use Rattle.channel.specs.declared.step.Op.{Op}
+use Rattle.channel.specs.declared.step.Op.the-variants.{Write, Read, Wire}
+use Rattle.channel.specs.State.{fresh, zeros, guarded, countOf, framecntOf, withKey, stoRecorded, seqRecorded}
+use Rattle.channel.specs.Range.{inRange}
+use Rattle.channel.specs.Wires.{turnStore}
+use Rattle.channel.specs.Access.{readRefusal, readBy, readOf, moded, pointed, dataPlace, teAfter, asked, controlled, refusalOf, writtenBy, storedBy, writeOf, writeStore, putOf, putStore}
+use Rattle.channel.specs.Step.{writeAt, storeAt, readAt, turnAt, eventAt, eventStore, servedBy, servedStore, rangeNumber, stepOf, bytesAfter}
+use Rattle.channel.specs.Laws.Frames.{In, in-of, of-in, Good, Held, Runs, In-phase, phase-in, rewalked, zero-ends, waited-in, left-in, begun-in, turn-in}
+
+-- ---- where no frame is under way, the tables may change
+idle-frame : (p : Phase) (s l b : List ℕ) → activeOf p ≡ false → frameIn p s l b ≡ true
+unfolding frameIn
+idle-frame Idle s l b e = refl
+idle-frame (Address n) s l b e = absurd (omega (arith, false-not-true (sym e)))
+idle-frame (Sending n) s l b e = absurd (omega (arith, false-not-true (sym e)))
+idle-frame (Receiving n) s l b e = absurd (omega (arith, false-not-true (sym e)))
+idle-frame Stopping s l b e = refl
+idle-frame Waiting s l b e = refl
+
+open-frame : (p : Phase) (at : ℕ) (s l b : List ℕ) → lockedOf p at ≡ false → frameIn p s l b ≡ true
+unfolding frameIn
+open-frame Idle at s l b e = refl
+open-frame (Address n) at s l b e = absurd (omega (arith, false-not-true (sym e)))
+open-frame (Sending n) at s l b e = absurd (omega (arith, false-not-true (sym e)))
+open-frame (Receiving n) at s l b e = absurd (omega (arith, false-not-true (sym e)))
+open-frame Stopping at s l b e = refl
+open-frame Waiting at s l b e = refl
+
+-- in Idle the number of ended frames is 0, whatever TE and FRAMECNT are
+idle-ended : (p : Phase) (te te′ : Bool) (n n′ k : ℕ) → activeOf p ≡ false → endedIn p te n k ≡ true → endedIn p te′ n′ k ≡ true
+unfolding endedIn countingOf if_then_else_
+idle-ended Idle te te′ n n′ k a e = e
+idle-ended (Address x) te te′ n n′ k a e = absurd (omega (arith, false-not-true (sym a)))
+idle-ended (Sending x) te te′ n n′ k a e = absurd (omega (arith, false-not-true (sym a)))
+idle-ended (Receiving x) te te′ n n′ k a e = absurd (omega (arith, false-not-true (sym a)))
+idle-ended Stopping te te′ n n′ k a e = absurd (omega (arith, false-not-true (sym a)))
+idle-ended Waiting te te′ n n′ k a e = absurd (omega (arith, false-not-true (sym a)))
+
+idle-walked : (w : Walk) (te te′ : Bool) (n n′ : ℕ) → activeOf (w .phase) ≡ false → walkIn w te n ≡ true → walkIn w te′ n′ ≡ true
+unfolding walkIn
+idle-walked w te te′ n n′ a e = let b = both _ _ e in with _ _ (idle-ended (w .phase) te te′ n n′ (w .ended) a (b .0)) (b .1)
+
+-- TE of a write to CONTROL
+te-kept : (w : Walk) (te x : Bool) (n : ℕ) → walkIn w te n ≡ true → walkIn w (keptIf (activeOf (w .phase)) te x) n ≡ true
+unfolding keptIf
+te-kept w te x n e = pick-holds (λ (b : Bool). walkIn w b n ≡ true) (activeOf (w .phase)) (λ _. e) (λ a. idle-walked w te x n n a e)
+
+-- ---- the count after a write to TRANCONFIG
+entry-0 : (l : List ℕ) (i v : ℕ) → getD l 0 0 ≤ 64 → (i ≡ 0 → v ≤ 64) → getD (set l i v) 0 0 ≤ 64
+entry-0 [] i v h k = h
+entry-0 (x ∷ l) zero v h k = k refl
+entry-0 (x ∷ l) (suc i) v h k = h
+
+not-many : (at v : ℕ) → tooMany at v ≡ false → at ≡ 0 → v ≤ 64
+unfolding tooMany if_then_else_
+not-many at v e q = ltb-false 64 v (rw (eq-eqb at 0 q) at e)
+
+-- ---- the pointers after a write to CONTROL
+rewound-le : (b : Bool) (n k : ℕ) → n ≤ k → rewound b n ≤ k
+unfolding rewound
+rewound-le b n k h = pick-holds (λ (x : ℕ). x ≤ k) b (λ _. omega arith) (λ _. h)
+
+pointed-le : (b : Bool) (place at : ℕ) → at ≤ 4352 → pointedAt b place at ≤ 4352
+unfolding pointedAt atMost
+pointed-le b place at h =
+    pick-holds (λ (x : ℕ). x ≤ 4352) b
+    (λ _. pick-holds (λ (x : ℕ). x ≤ 4352) (ltb place 4352) (λ t. let g = ltb-true place 4352 t in omega arith) (λ _. omega arith))
+    (λ _. h)
+
+-- ---- CONTROL
+control-in : (c : Channel) (k : Command) → In c → In (pointed (moded c k) k)
+control-in c k h =
+    let p = points-of _ (h .0) in
+    ( of-points _ (record {
+        sla = rewound-le _ _ _ (p .sla);
+        count = rewound-le _ _ _ (p .count);
+        conf = rewound-le _ _ _ (p .conf);
+        buf = pointed-le _ _ _ (p .buf);
+      })
+    , h .1
+    , te-kept (c .walk) (c .regs .te) (k .te) (framecntOf c) (h .2)
+    , h .3
+    )
+
+-- what a write to CONTROL asks for may rely on
+Asks : Channel → Ask → Type 0
+Asks c Nothing = Unit {0}
+Asks c Overrun = Unit {0}
+Asks c Begin = Runs c
+Asks c Wait = Unit {0}
+Asks c Sto = In (stoRecorded c)
+Asks c Seq = In (seqRecorded c)
+Asks c Leave = Unit {0}
+
+asked-in : (c : Channel) (a : Ask) → In c → Asks c a → Good (asked c a)
+unfolding Asks asked
+asked-in c Nothing h r = h
+asked-in c Overrun h r = h
+asked-in c Begin h r = begun-in c r
+asked-in c Wait h r = waited-in c 0 (h .0, h .1) (zero-ends _ _)
+asked-in c Sto h r = r
+asked-in c Seq h r = r
+asked-in c Leave h r = left-in c (h .0, h .1)
+
+idle-none : (te : Bool) (n k : ℕ) → endedIn Idle te n k ≡ true → k ≡ 0
+unfolding endedIn countingOf if_then_else_
+idle-none te n k e = eqb-true k 0 e
+
+module _ (c : Channel) (h : In c) where
+  idle-runs : In-phase c [] h Idle → Runs c
+  unfolding recordedIn blankOf
+  idle-runs i =
+      let a = past _ _ (i .2) .1 in
+      let b = past _ _ a .1 in
+      let e = past _ _ (past _ _ b .1) .0 in
+      let z : c .walk .ended ≡ 0 = idle-none _ _ _ (i .1) in ((h .0, h .1), rw e, rw z (zero-ends _ _))
+
+  start-asks : (sta te : Bool) → Runs c → Asks c (startAsked sta te)
+  unfolding startAsked Asks
+  start-asks sta te r = pick-holds (Asks c) sta (λ _. pick-holds (Asks c) te (λ _. tt) (λ _. r)) (λ _. tt)
+
+  stop-asks : (sto seq : Bool) (p : Phase) → In-phase c [] h p → recordedIn p (stoRecorded c .walk) ≡ true → recordedIn p (seqRecorded c .walk) ≡ true → Asks c (stopAsked sto seq)
+  unfolding stopAsked Asks
+  stop-asks sto seq p i r s =
+      pick-holds (Asks c) sto (λ _. rewalked c [] h _ refl refl p i r)
+      (λ _. pick-holds (Asks c) seq (λ _. rewalked c [] h _ refl refl p i s) (λ _. tt))
+
+  leave-asks : (sto seq : Bool) → Asks c (leaveAsked sto seq)
+  unfolding leaveAsked Asks
+  leave-asks sto seq = pick-holds (Asks c) sto (λ _. tt) (λ _. pick-holds (Asks c) seq (λ _. tt) (λ _. tt))
+
+  asks : (p : Phase) (k : Command) (te : Bool) → In-phase c [] h p → Asks c (askedIn p k te)
+  unfolding askedIn recordedIn
+  asks Idle k te i = start-asks (k .sta) te (idle-runs i)
+  asks (Address n) k te i = stop-asks (k .sto) (k .stoseq) (Address n) i (i .2) (i .2)
+  asks (Sending n) k te i = stop-asks (k .sto) (k .stoseq) (Sending n) i (i .2) (i .2)
+  asks (Receiving n) k te i = stop-asks (k .sto) (k .stoseq) (Receiving n) i (i .2) (i .2)
+  asks Stopping k te i = stop-asks (k .sto) (k .stoseq) Stopping i refl refl
+  asks Waiting k te i = leave-asks (k .sto) (k .stoseq)
+
+controlled-in : (c : Channel) (k : Command) → In c → Good (controlled c k)
+unfolding controlled askOf Asks
+controlled-in c k h =
+    let g = control-in c k h in
+    asked-in _ _ g
+    (pick-holds (Asks (pointed (moded c k) k)) (overrunOf (k .aiptrrst) (dataPlace c))
+    (λ _. tt)
+    (λ _. asks _ g (c .walk .phase) k (teAfter c k) (phase-in (pointed (moded c k) k) [] g)))
+
+-- ---- reads
+read-in : (c : Channel) (m : List ℕ) (reg : Register) → readRefusal c reg ≡ 0 → In c → Good (readBy c m reg)
+unfolding readRefusal readBy
+read-in c m (Status n) e h = h
+read-in c m Control e h = h
+read-in c m Chstatus e h = h
+read-in c m Intmsk e h = h
+read-in c m Slatable e h =
+    let p = points-of _ (h .0) in
+    let g = not-past 63 (c .ptrs .sla) e in
+    (of-points _ (record { sla = omega arith; count = p .count; conf = p .conf; buf = p .buf }), h .1, h .2, h .3)
+read-in c m Tranconfig e h =
+    let p = points-of _ (h .0) in
+    let g = not-past 64 (c .ptrs .conf) e in
+    (of-points _ (record { sla = p .sla; count = p .count; conf = omega arith; buf = p .buf }), h .1, h .2, h .3)
+read-in c m Data e h =
+    let p = points-of _ (h .0) in
+    let g = placed (c .ptrs .buf) e in
+    (of-points _ (record { sla = p .sla; count = p .count; conf = p .conf; buf = omega arith }), h .1, h .2, h .3)
+read-in c m Transel e h = h
+read-in c m Tranofs e h = h
+read-in c m Bytecount e h =
+    let p = points-of _ (h .0) in
+    let g = not-past 63 (c .ptrs .count) e in
+    (of-points _ (record { sla = p .sla; count = omega arith; conf = p .conf; buf = p .buf }), h .1, h .2, h .3)
+read-in c m (Setting n) e h = h
+read-in c m Preset e h = h
+
+-- ---- writes
+mask-clear : (v : ℕ) → maskKept v / 2 % 8 ≡ 0
+mask-clear v = omega arith
+
+write-in : (c : Channel) (reg : Register) (v : ℕ) → refusalOf c reg v ≡ 0 → In c → Good (writtenBy c reg v)
+unfolding refusalOf writtenBy
+write-in c (Status n) v e h = h
+write-in c Control v e h = controlled-in c (commandOf v) h
+write-in c Chstatus v e h = h
+write-in c Intmsk v e h = (h .0, of-registers _ _ _ (registers-count _ _ _ (h .1)) (registers-sel _ _ _ (h .1)) (mask-clear v), h .2, h .3)
+write-in c Slatable v e h =
+    let p = points-of _ (h .0) in
+    let g = sla-open (c .walk .phase) (c .ptrs .sla) e in
+    (of-points _ (record { sla = omega arith; count = p .count; conf = p .conf; buf = p .buf }), h .1, h .2, idle-frame (c .walk .phase) _ _ _ (g .0))
+write-in c Tranconfig v e h =
+    let p = points-of _ (h .0) in
+    let g = conf-open (c .walk .phase) (c .ptrs .conf) v e in
+    ( of-points _ (record { sla = p .sla; count = p .count; conf = omega arith; buf = p .buf })
+    , of-registers _ _ _ (entry-0 (c .tranconfig) (c .ptrs .conf) v (registers-count _ _ _ (h .1)) (not-many _ v (g .2))) (registers-sel _ _ _ (h .1)) (registers-mask _ _ _ (h .1))
+    , h .2
+    , open-frame (c .walk .phase) (c .ptrs .conf) _ _ _ (g .0)
+    )
+write-in c Data v e h =
+    let p = points-of _ (h .0) in
+    let g = data-open (c .walk .phase) (c .ptrs .buf) e in
+    (of-points _ (record { sla = p .sla; count = p .count; conf = p .conf; buf = omega arith }), h .1, h .2, h .3)
+write-in c Transel v e h =
+    let p = points-of _ (h .0) in
+    let g = sel-open (c .tranconfig) v e in
+    ( of-points _ (record { sla = p .sla; count = p .count; conf = p .conf; buf = omega arith })
+    , of-registers _ _ _ (registers-count _ _ _ (h .1)) (g .0) (registers-mask _ _ _ (h .1))
+    , h .2
+    , h .3
+    )
+write-in c Tranofs v e h =
+    let p = points-of _ (h .0) in
+    let g = placed (startOf (c .tranconfig) (c .regs .transel) + v) e in
+    (of-points _ (record { sla = p .sla; count = p .count; conf = p .conf; buf = omega arith }), h .1, h .2, h .3)
+write-in c Bytecount v e h = h
+write-in c (Setting n) v e h =
+    let a = not-busy (c .walk .phase) e in
+    (h .0, h .1, idle-walked (c .walk) _ _ _ _ a (h .2), h .3)
+write-in c Preset v e h = h
+
+-- ---- a step from its number: what holds of the channel, and of what follows where the number is 0
+guarded-in : (n : ℕ) (c : Channel) (d : Stepped) → In c → (n ≡ 0 → Good d) → Good (guarded n c d)
+unfolding guarded
+guarded-in n c d h f = pick-holds Good (eqb n 0) (λ t. f (eqb-true n 0 t)) (λ _. h)
+
+fresh-in : In fresh
+unfolding pointersIn registersIn walkIn endedIn countingOf recordedIn blankOf frameIn if_then_else_
+fresh-in = (refl, refl, refl, refl)
+
+put-in : (c : Channel) (reg : Register) (v : ℕ) → In c → Good (putOf c reg v)
+unfolding putOf writeOf
+put-in c reg v h =
+    pick-holds Good (resetsOf reg v (c .key)) (λ _. fresh-in)
+    (λ _. guarded-in _ (withKey c (keyAfter reg v)) _ h (λ e. write-in (withKey c (keyAfter reg v)) reg v e h))
+
+-- ---- the step
+module _ (c : Channel) (m : List ℕ) (number : ℕ) (h : In c) where
+  write-at : (p : Place) (v : ℕ) → Good (writeAt c p v)
+  unfolding writeAt
+  write-at (Here reg) v = put-in c reg v h
+  write-at Elsewhere v = h
+
+  read-at : (p : Place) → Good (readAt c m p)
+  unfolding readAt readOf
+  read-at (Here reg) = guarded-in _ c _ h (λ e. read-in c m reg e h)
+  read-at Elsewhere = h
+
+  event-at : (e : Event) → Good (eventAt c m number e)
+  unfolding eventAt
+  event-at e = pick-holds Good (ltb 2 number) (λ _. h) (λ _. turn-in c m h e)
+
+  served-in : (op : Op) → Good (servedBy c m number op)
+  unfolding servedBy
+  served-in (Write a v) = write-at (placeOf number a) v
+  served-in (Read a) = read-at (placeOf number a)
+  served-in (Wire e) = event-at e
+
+-- NO STEP LEADS OUT OF RANGE
+pub stays-in-range : (c : Channel) (m : List ℕ) (number : ℕ) (op : Op) → inRange c ≡ true → inRange (stepOf c m number op .channel) ≡ true
+unfolding stepOf
+stays-in-range c m number op e = let h = in-of c e in of-in _ (guarded-in _ c _ h (λ _. served-in c m number h op))
+
+-- the same of a step that the whole part makes of a channel in range
+pub serves-in-range : (c : Channel) (m : List ℕ) (number : ℕ) (op : Op) → inRange c ≡ true → inRange (servedBy c m number op .channel) ≡ true
+serves-in-range c m number op e = of-in _ (served-in c m number (in-of c e) op)
+
+-- the reset state is in range
+pub fresh-in-range : inRange fresh ≡ true
+fresh-in-range = of-in fresh fresh-in
+
+-- ---- A STEP KEEPS THE NUMBER OF BYTES
+pub zeros-length : length zeros ≡ 4352
+unfolding zeros
+zeros-length = length-replicate {A = ℕ} 4352 0
+
+abbrev Same : List ℕ → List ℕ → Type 0
+Same m l = length l ≡ length m
+
+stored-length : (c : Channel) (m : List ℕ) (reg : Register) (v : ℕ) → Same m (storedBy c m reg v)
+unfolding storedBy
+stored-length c m (Status n) v = refl
+stored-length c m Control v = refl
+stored-length c m Chstatus v = refl
+stored-length c m Intmsk v = refl
+stored-length c m Slatable v = refl
+stored-length c m Tranconfig v = refl
+stored-length c m Data v = length-set m _ v
+stored-length c m Transel v = refl
+stored-length c m Tranofs v = refl
+stored-length c m Bytecount v = refl
+stored-length c m (Setting n) v = refl
+stored-length c m Preset v = refl
+
+turned-length : (c : Channel) (m : List ℕ) (t : Turn) → Same m (turnStore c m t)
+unfolding turnStore
+turned-length c m Unawaited = refl
+turned-length c m (AckAddress n) = refl
+turned-length c m (AckSending n) = refl
+turned-length c m (NackAddress n) = refl
+turned-length c m (NackSending n) = refl
+turned-length c m (Receive n b) = length-set m _ b
+turned-length c m BeginTurn = refl
+turned-length c m Late = refl
+turned-length c m End = refl
+turned-length c m (Fault f) = refl
+
+module _ (c : Channel) (m : List ℕ) (number : ℕ) (whole : length m ≡ 4352) where
+  put-length : (reg : Register) (v : ℕ) → Same m (putStore c m reg v)
+  unfolding putStore writeStore
+  put-length reg v =
+      pick-holds (Same m) (resetsOf reg v (c .key)) (λ _. zeros-length ∙ sym whole)
+      (λ _. pick-holds (Same m) (eqb (refusalOf (withKey c (keyAfter reg v)) reg v) 0) (λ _. stored-length _ m reg v) (λ _. refl))
+
+  store-length : (p : Place) (v : ℕ) → Same m (storeAt c m p v)
+  unfolding storeAt
+  store-length (Here reg) v = put-length reg v
+  store-length Elsewhere v = refl
+
+  pub served-length : (op : Op) → length (servedStore c m number op) ≡ length m
+  unfolding servedStore eventStore
+  served-length (Write a v) = store-length (placeOf number a) v
+  served-length (Read a) = refl
+  served-length (Wire e) = pick-holds (Same m) (ltb 2 number) (λ _. refl) (λ _. turned-length c m (turnAt c e))
+
+whole-of : (len : ℕ) (ok : Bool) → rangeNumber len ok ≡ 0 → len ≡ 4352
+unfolding rangeNumber
+whole-of len ok e = eqb-true len 4352 (accepted (eqb len 4352) _ 9 (omega arith) e .0)
+
+pub length-bytes : (c : Channel) (m : List ℕ) (number : ℕ) (op : Op) → length (bytesAfter c m number op) ≡ length m
+unfolding bytesAfter
+length-bytes c m number op =
+    pick-holds (Same m) (eqb (rangeNumber (length m) (inRange c)) 0)
+    (λ t. served-length c m number (whole-of (length m) (inRange c) (eqb-true _ 0 t)) op)
+    (λ _. refl)
