@@ -15,9 +15,10 @@ use Rattle.rules.specs.Registers.{activeOf, commandOf, controlValue, chstatusVa
 use Rattle.rules.specs.Tables.{startOf}
 use Rattle.rules.specs.Access.{busyRefusal, pastRefusal, placeRefusal, slaRefusal, confRefusal, dataRefusal, selRefusal, keptIf, rewound, pointedAt, overrunOf, keyAfter, resetsOf}
 use Rattle.rules.specs.Wires.{askOf}
+use Rattle.rules.specs.Walk.{waiting, stoRecorded, seqRecorded, noFlags}
 use Rattle.channel.specs.declared.state.Channel.{Channel}
 use Rattle.channel.specs.declared.state.Stepped.{Stepped}
-use Rattle.channel.specs.State.{fresh, zeros, noFlags, plain, refused, replied, guarded, withSla, withConf, withSettings, withFlags, withPtrs, withKey, slaAt, confAt, dataAt, countAt, maskSet, placeSet, modeSet, waited, stoRecorded, seqRecorded}
+use Rattle.channel.specs.State.{fresh, zeros, plain, refused, replied, guarded, withSla, withConf, withSettings, withFlags, withPtrs, withWalk, withKey, slaAt, confAt, dataAt, countAt, maskSet, placeSet, modeSet}
 use Rattle.channel.specs.Wires.{begun, endedBy}
 
 -- ---- reads
@@ -88,9 +89,9 @@ unfoldable pub asked : Channel → Ask → Stepped
 asked c Nothing = plain c
 asked c Overrun = refused c 5
 asked c Begin = begun c
-asked c Wait = plain (waited c 0)
-asked c Sto = plain (stoRecorded c)
-asked c Seq = plain (seqRecorded c)
+asked c Wait = plain (withWalk c (waiting 0))
+asked c Sto = plain (withWalk c (stoRecorded (c .walk)))
+asked c Seq = plain (withWalk c (seqRecorded (c .walk)))
 asked c Leave = plain (endedBy c Sd)
 
 -- CONTROL writes apply TP and TE, pointer resets, then the rest

@@ -1,18 +1,18 @@
 -- Words for the record of a channel: the reset values, what a step answers, and the record with a part replaced.
 use Prim.Native.Nat.{ℕ}
-use mathlib.Core.Bool.{Bool, true, false}
+use mathlib.Core.Bool.{Bool, false}
 use mathlib.Core.List.{List, [], _∷_}
 use lib.Dec.{eqb}
 use lib.ListN.{getD, replicate}
 use Rattle.laws.specs.Pick.{if_then_else_}
 use Rattle.rules.specs.declared.state.Phase.{Phase}
-use Rattle.rules.specs.declared.state.Phase.the-variants.{Idle, Stopping, Waiting}
 use Rattle.rules.specs.declared.state.Regs.{Regs}
 use Rattle.rules.specs.declared.state.Flags.{Flags}
 use Rattle.rules.specs.declared.state.Ptrs.{Ptrs}
 use Rattle.rules.specs.declared.state.Walk.{Walk}
 use Rattle.rules.specs.declared.wires.Action.{Action}
 use Rattle.rules.specs.declared.wires.Action.the-variants.{Nothing}
+use Rattle.rules.specs.Walk.{idle, toPhase, noFlags}
 use Rattle.channel.specs.declared.state.Channel.{Channel}
 use Rattle.channel.specs.declared.state.Stepped.{Stepped}
 
@@ -21,14 +21,6 @@ use Rattle.channel.specs.declared.state.Stepped.{Stepped}
 -- 4,352 zeros
 unfoldable pub zeros : List ℕ
 zeros = replicate 4352 0
-
--- CHSTATUS 00h
-abbrev pub noFlags : Flags
-noFlags = record { sd = false; fld = false; we = false; re = false; dae = false; cle = false; sse = false; fe = false }
-
--- Idle: nothing is recorded, and the number of ended frames is 0
-abbrev pub idle : Walk
-idle = record { phase = Idle; ended = 0; sto = false; seq = false; fe = false; error = false }
 
 -- FRAMECNT 01h, REFRATE 00h, SCLL 5Eh, SCLH 3Fh, MODE 92h, TIMEOUT 00h; all else 00h
 abbrev pub fresh : Channel
@@ -134,51 +126,9 @@ placeSet c v o = withRegs c (record { intmsk = c .regs .intmsk; transel = v; tra
 abbrev pub modeSet : Channel → Bool → Bool → Channel
 modeSet c tp te = withRegs c (record { intmsk = c .regs .intmsk; transel = c .regs .transel; tranofs = c .regs .tranofs; tp = tp; te = te })
 
--- ---- flags of CHSTATUS set
-abbrev pub sdSet : Channel → Channel
-sdSet c = withFlags c (record { sd = true; fld = c .flags .fld; we = c .flags .we; re = c .flags .re; dae = c .flags .dae; cle = c .flags .cle; sse = c .flags .sse; fe = c .flags .fe })
-
-abbrev pub sdFldSet : Channel → Bool → Channel
-sdFldSet c fld = withFlags c (record { sd = true; fld = fld; we = c .flags .we; re = c .flags .re; dae = c .flags .dae; cle = c .flags .cle; sse = c .flags .sse; fe = c .flags .fe })
-
-abbrev pub weSet : Channel → Channel
-weSet c = withFlags c (record { sd = c .flags .sd; fld = c .flags .fld; we = true; re = c .flags .re; dae = c .flags .dae; cle = c .flags .cle; sse = c .flags .sse; fe = c .flags .fe })
-
-abbrev pub reSet : Channel → Channel
-reSet c = withFlags c (record { sd = c .flags .sd; fld = c .flags .fld; we = c .flags .we; re = true; dae = c .flags .dae; cle = c .flags .cle; sse = c .flags .sse; fe = c .flags .fe })
-
-abbrev pub daeSet : Channel → Channel
-daeSet c = withFlags c (record { sd = c .flags .sd; fld = c .flags .fld; we = c .flags .we; re = c .flags .re; dae = true; cle = c .flags .cle; sse = c .flags .sse; fe = c .flags .fe })
-
-abbrev pub cleSet : Channel → Channel
-cleSet c = withFlags c (record { sd = c .flags .sd; fld = c .flags .fld; we = c .flags .we; re = c .flags .re; dae = c .flags .dae; cle = true; sse = c .flags .sse; fe = c .flags .fe })
-
-abbrev pub sseSet : Channel → Channel
-sseSet c = withFlags c (record { sd = c .flags .sd; fld = c .flags .fld; we = c .flags .we; re = c .flags .re; dae = c .flags .dae; cle = c .flags .cle; sse = true; fe = c .flags .fe })
-
-abbrev pub feSet : Channel → Channel
-feSet c = withFlags c (record { sd = c .flags .sd; fld = c .flags .fld; we = c .flags .we; re = c .flags .re; dae = c .flags .dae; cle = c .flags .cle; sse = c .flags .sse; fe = true })
-
--- ---- the walk: the phase, and what is recorded
+-- ---- the walk: its phase, or a new one
 abbrev pub phaseSet : Channel → Phase → Channel
-phaseSet c p = withWalk c (record { phase = p; ended = c .walk .ended; sto = c .walk .sto; seq = c .walk .seq; fe = c .walk .fe; error = c .walk .error })
+phaseSet c p = withWalk c (toPhase (c .walk) p)
 
 abbrev pub idled : Channel → Channel
 idled c = withWalk c idle
-
--- Waiting, with n frames ended and nothing recorded
-abbrev pub waited : Channel → ℕ → Channel
-waited c n = withWalk c (record { phase = Waiting; ended = n; sto = false; seq = false; fe = false; error = false })
-
-abbrev pub stoRecorded : Channel → Channel
-stoRecorded c = withWalk c (record { phase = c .walk .phase; ended = c .walk .ended; sto = true; seq = c .walk .seq; fe = c .walk .fe; error = c .walk .error })
-
-abbrev pub seqRecorded : Channel → Channel
-seqRecorded c = withWalk c (record { phase = c .walk .phase; ended = c .walk .ended; sto = c .walk .sto; seq = true; fe = c .walk .fe; error = c .walk .error })
-
-abbrev pub feRecorded : Channel → Channel
-feRecorded c = withWalk c (record { phase = c .walk .phase; ended = c .walk .ended; sto = c .walk .sto; seq = c .walk .seq; fe = true; error = c .walk .error })
-
--- Stopping, an error end noted
-abbrev pub errorNoted : Channel → Channel
-errorNoted c = withWalk c (record { phase = Stopping; ended = c .walk .ended; sto = c .walk .sto; seq = c .walk .seq; fe = c .walk .fe; error = true })

@@ -1,18 +1,15 @@
 -- Document 01, 'A sequence on the wires': what a frame's begin, each event and a frame's end do to a channel.
 use Prim.Native.Nat.{ℕ, _+_, _<_, _≤_}
-use mathlib.Core.Bool.{Bool, true, false}
+use mathlib.Core.Bool.{Bool, false}
 use mathlib.Core.List.{List}
-use mathlib.Core.Path.{_≡_}
 use lib.ListN.{getD, set, replicate}
 use Rattle.laws.specs.Pick.{if_then_else_}
-use Rattle.rules.specs.declared.state.Phase.{Phase}
 use Rattle.rules.specs.declared.state.Phase.the-variants.{Address, Sending, Receiving, Stopping}
 use Rattle.rules.specs.declared.wires.Action.{Action}
 use Rattle.rules.specs.declared.wires.Action.the-variants.{S, D, C, A, Np, P}
 use Rattle.rules.specs.declared.wires.Turn.{Turn}
 use Rattle.rules.specs.declared.wires.Turn.the-variants.{Unawaited, AckAddress, AckSending, NackAddress, NackSending, Receive, Begin, Late, End, Fault as Faulty}
 use Rattle.rules.specs.declared.wires.Fault.{Fault}
-use Rattle.rules.specs.declared.wires.Fault.the-variants.{Dae, Cle, Sse}
 use Rattle.rules.specs.declared.wires.Move.{Move}
 use Rattle.rules.specs.declared.wires.Move.the-variants.{Halt, Send}
 use Rattle.rules.specs.declared.wires.Next.{Next}
@@ -22,14 +19,16 @@ use Rattle.rules.specs.declared.wires.Tail.the-variants.{Plain, Nacked}
 use Rattle.rules.specs.declared.wires.Beginning.{Beginning}
 use Rattle.rules.specs.declared.wires.Beginning.the-variants.{Empty, Unfit, Fit}
 use Rattle.rules.specs.declared.wires.Ending.{Ending}
-use Rattle.rules.specs.declared.wires.Ending.the-variants.{Fe, Error, Sd, Wait}
 use Rattle.rules.specs.declared.wires.Edge.{Edge}
+use Rattle.rules.specs.declared.wires.Beat.{Beat}
+use Rattle.rules.specs.declared.wires.Beat.the-variants.{Quiet, Begin as BeginBeat, Late as LateBeat}
 use Rattle.rules.specs.Registers.{bitOf}
 use Rattle.rules.specs.Tables.{startOf, fitting, readsOf, firstSent, marked, Running}
-use Rattle.rules.specs.Wires.{beginningOf, haltedOf, reachOf, moveOf, nextOf, stopBy, againBy, maskedOf, restOf, endingOf, fldAfter, edgeTurn}
+use Rattle.rules.specs.Wires.{beginningOf, haltedOf, reachOf, moveOf, nextOf, stopBy, againBy, maskedOf, restOf, endingOf, edgeBeat}
+use Rattle.rules.specs.Walk.{errorNoted, nackFlags, faultFlags, lateFlags, lateWalk, endFlags, endWalk}
 use Rattle.channel.specs.declared.state.Channel.{Channel}
 use Rattle.channel.specs.declared.state.Stepped.{Stepped}
-use Rattle.channel.specs.State.{plain, refused, acted, countOf, framecntOf, withStatus, withCounts, sdSet, sdFldSet, weSet, reSet, daeSet, cleSet, sseSet, feSet, phaseSet, idled, waited, feRecorded, errorNoted}
+use Rattle.channel.specs.State.{plain, refused, acted, countOf, framecntOf, withStatus, withCounts, withFlags, withWalk, phaseSet, idled}
 
 -- ---- words for transaction n
 
@@ -59,12 +58,9 @@ resolved c n v = withStatus c (set (c .status) n v)
 
 -- ---- the frame's end
 
--- FE recorded: FE, Idle; error end: Idle; SD, Idle with FLD; SD, Waiting
-unfoldable pub endedBy : Channel → Ending → Channel
-endedBy c Fe = idled (feSet c)
-endedBy c Error = idled c
-endedBy c Sd = idled (sdFldSet c (fldAfter (c .regs .te) (framecntOf c) (c .flags .fld)))
-endedBy c (Wait n) = waited (sdSet c) n
+-- the flags and the walk that the ending leaves
+abbrev pub endedBy : Channel → Ending → Channel
+endedBy c e = withWalk (withFlags c (endFlags (c .flags) (c .regs .te) (framecntOf c) e)) (endWalk e)
 
 -- frame end, first that applies
 unfoldable pub frameEnded : Channel → Channel
@@ -78,7 +74,7 @@ frameEnded c =
 unfoldable pub passed : Channel → ℕ → ℕ → Channel
 passed c from to = withStatus c (marked (c .status) from to)
 
--- after the last, STOP
+-- STOP: after the last, or cut short
 unfoldable pub stopped : Channel → Action → Stepped
 stopped c a = acted (phaseSet c Stopping) a
 
@@ -165,12 +161,12 @@ received c n = receiveOn (countedOne c n) n (nextOf (haltOf c) (bytesOf c n + 1)
 -- ---- NACK: STATUS v, 04h in Address, 08h in Sending
 
 -- WE for a write, RE for a read
-unfoldable pub noted : Channel → Bool → Channel
-noted c read = if read then reSet c else weSet c
+abbrev pub noted : Channel → Bool → Channel
+noted c read = withFlags c (nackFlags (c .flags) read)
 
 -- unmasked: P, an error end
 unfoldable pub failed : Channel → Stepped
-failed c = acted (errorNoted c) P
+failed c = acted (withWalk c (errorNoted (c .walk))) P
 
 -- masked: next transaction
 unfoldable pub failedBy : Channel → ℕ → Bool → Stepped
@@ -182,14 +178,15 @@ nacked c n v =
     failedBy (noted (resolved c n v) read) n (maskedOf (c .regs .intmsk) read)
 
 -- ---- late with FEMSK 1: FE set, no more; otherwise FE is recorded
-unfoldable pub lateBy : Channel → Channel
-lateBy c = if bitOf (c .regs .intmsk) 0x01 then feSet c else feRecorded c
+abbrev pub femskOf : Channel → Bool
+femskOf c = bitOf (c .regs .intmsk) 0x01
+
+abbrev pub lateBy : Channel → Channel
+lateBy c = withWalk (withFlags c (lateFlags (c .flags) (femskOf c))) (lateWalk (c .walk) (femskOf c))
 
 -- ---- SDA sets DAE, SCL CLE, ILL SSE: the channel goes Idle, no action
-unfoldable pub faulted : Channel → Fault → Channel
-faulted c Dae = idled (daeSet c)
-faulted c Cle = idled (cleSet c)
-faulted c Sse = idled (sseSet c)
+abbrev pub faulted : Channel → Fault → Channel
+faulted c f = idled (withFlags c (faultFlags (c .flags) f))
 
 -- ---- an event in the phase that it meets; no. 7 where it is not awaited
 unfoldable pub turned : Channel → List ℕ → Turn → Stepped
@@ -218,20 +215,13 @@ turnStore c m End = m
 turnStore c m (Faulty f) = m
 
 -- ---- a trigger edge's effect on one channel; a frame that doesn't fit shows as no. 5, which its caller turns into BE
-unfoldable pub edgeBy : Channel → Turn → Stepped
-edgeBy c Unawaited = plain c
-edgeBy c (AckAddress n) = plain c
-edgeBy c (AckSending n) = plain c
-edgeBy c (NackAddress n) = plain c
-edgeBy c (NackSending n) = plain c
-edgeBy c (Receive n b) = plain c
-edgeBy c Begin = begun c
-edgeBy c Late = plain (lateBy c)
-edgeBy c End = plain c
-edgeBy c (Faulty f) = plain c
+unfoldable pub beaten : Channel → Beat → Stepped
+beaten c Quiet = plain c
+beaten c BeginBeat = begun c
+beaten c LateBeat = plain (lateBy c)
 
 unfoldable pub triggered : Channel → Edge → Stepped
-triggered c edge = edgeBy c (edgeTurn (c .walk .phase) (c .regs .te) (c .regs .tp) edge)
+triggered c edge = beaten c (edgeBeat (c .walk .phase) (c .regs .te) (c .regs .tp) edge)
 
 -- ---- what the range gives
 

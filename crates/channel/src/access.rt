@@ -5,7 +5,8 @@ ghost use lib.ListN.{length, getD, set};
 ghost use Rattle.rules.specs.Registers.{Known, maskKept, chstatusValue};
 ghost use Rattle.rules.specs.Tables.{startOf};
 ghost use Rattle.rules.specs.Access.{placeRefusal};
-ghost use Rattle.channel.specs.State.{zeros, countOf, noFlags, plain, replied, withSla, withConf, withSettings, withFlags, slaAt, confAt, dataAt, countAt, maskSet, placeSet, stoRecorded, seqRecorded};
+ghost use Rattle.channel.specs.State.{zeros, countOf, replied, withSla, withConf, withSettings, withFlags, slaAt, confAt, dataAt, countAt, maskSet, placeSet};
+ghost use Rattle.rules.specs.Walk.{noFlags};
 ghost use Rattle.channel.specs.Access.{readRefusal, controlOf, readBy, readOf, dataPlace, moded, pointed, asked, controlled, refusalOf, writtenBy, storedBy, writeOf, writeStore, putOf, putStore};
 ghost use Rattle.channel.specs.Step.{Accepted};
 use crate::state::Channel;
@@ -13,7 +14,6 @@ use crate::state::Stepped;
 use rules::Ask;
 use rules::Command;
 use rules::Ending;
-use rules::Flags;
 use rules::Ptrs;
 use rules::Register;
 
@@ -69,61 +69,11 @@ impl Channel {
         self.reply(v)
     }
 
-    fn clear_flags(self) -> Channel
-        ensures { λ r. ⌜ r ≡ withFlags self noFlags ⌝ }
-    {
-        let f = Flags {
-            sd: false,
-            fld: false,
-            we: false,
-            re: false,
-            dae: false,
-            cle: false,
-            sse: false,
-            fe: false,
-        };
-        let mut c = self;
-        c.flags = f;
-        c
-    }
-
     fn read_chstatus(self) -> Stepped
         ensures { λ r. ⌜ r ≡ replied (withFlags self noFlags) (chstatusValue (self .flags)) ⌝ }
     {
         let v = rules::chstatus_value(self.flags);
-        self.clear_flags().reply(v)
-    }
-
-    fn point_sla(self, n: usize) -> Channel
-        ensures { λ r. ⌜ r ≡ slaAt self n ⌝ }
-    {
-        let mut c = self;
-        c.ptrs.sla = n;
-        c
-    }
-
-    fn point_conf(self, n: usize) -> Channel
-        ensures { λ r. ⌜ r ≡ confAt self n ⌝ }
-    {
-        let mut c = self;
-        c.ptrs.conf = n;
-        c
-    }
-
-    fn point_data(self, n: usize) -> Channel
-        ensures { λ r. ⌜ r ≡ dataAt self n ⌝ }
-    {
-        let mut c = self;
-        c.ptrs.buf = n;
-        c
-    }
-
-    fn point_count(self, n: usize) -> Channel
-        ensures { λ r. ⌜ r ≡ countAt self n ⌝ }
-    {
-        let mut c = self;
-        c.ptrs.count = n;
-        c
+        self.with_flags(rules::no_flags()).reply(v)
     }
 
     fn read_sla(self) -> Stepped
@@ -132,7 +82,10 @@ impl Channel {
     {
         let at = self.ptrs.sla;
         let v = self.slatable[at];
-        self.point_sla(at + 1).reply(v)
+        let next = at + 1;
+        let mut c = self;
+        c.ptrs.sla = next;
+        c.reply(v)
     }
 
     fn read_conf(self) -> Stepped
@@ -141,7 +94,10 @@ impl Channel {
     {
         let at = self.ptrs.conf;
         let v = self.tranconfig[at];
-        self.point_conf(at + 1).reply(v)
+        let next = at + 1;
+        let mut c = self;
+        c.ptrs.conf = next;
+        c.reply(v)
     }
 
     fn read_data(self, mem: &[u8]) -> Stepped
@@ -150,7 +106,10 @@ impl Channel {
     {
         let at = self.ptrs.buf;
         let v = mem[at];
-        self.point_data(at + 1).reply(v)
+        let next = at + 1;
+        let mut c = self;
+        c.ptrs.buf = next;
+        c.reply(v)
     }
 
     fn read_count(self) -> Stepped
@@ -159,7 +118,10 @@ impl Channel {
     {
         let at = self.ptrs.count;
         let v = self.bytecount[at];
-        self.point_count(at + 1).reply(v)
+        let next = at + 1;
+        let mut c = self;
+        c.ptrs.count = next;
+        c.reply(v)
     }
 
     fn read_setting(self, n: usize) -> Stepped
@@ -192,7 +154,7 @@ impl Channel {
     }
 
     // A read of a register.
-    pub fn read(self, mem: &[u8], reg: Register) -> Stepped
+    pub(crate) fn read(self, mem: &[u8], reg: Register) -> Stepped
         requires { ⌜ Known reg × (length (now mem) ≡ 4352) ⌝ }
         ensures { λ r. ⌜ r ≡ readOf self (now (mem .entry)) reg ⌝ }
     {
@@ -245,33 +207,18 @@ impl Channel {
         c
     }
 
-    fn record_sto(self) -> Channel
-        ensures { λ r. ⌜ r ≡ stoRecorded self ⌝ }
-    {
-        let mut c = self;
-        c.walk.sto = true;
-        c
-    }
-
-    fn record_seq(self) -> Channel
-        ensures { λ r. ⌜ r ≡ seqRecorded self ⌝ }
-    {
-        let mut c = self;
-        c.walk.seq = true;
-        c
-    }
-
     fn ask(self, a: Ask) -> Stepped
         requires { ⌜ countOf self ≤ 64 ⌝ }
         ensures { λ r. ⌜ r ≡ asked self a ⌝ }
     {
+        let w = self.walk;
         match a {
             Ask::Nothing => self.refuse(0),
             Ask::Overrun => self.refuse(5),
             Ask::Begin => self.begin(),
-            Ask::Wait => self.to_waiting(0).refuse(0),
-            Ask::Sto => self.record_sto().refuse(0),
-            Ask::Seq => self.record_seq().refuse(0),
+            Ask::Wait => self.with_walk(rules::waiting_walk(0)).refuse(0),
+            Ask::Sto => self.with_walk(rules::record_sto(w)).refuse(0),
+            Ask::Seq => self.with_walk(rules::record_seq(w)).refuse(0),
             Ask::Leave => self.end_by(Ending::Sd).refuse(0),
         }
     }
@@ -435,7 +382,7 @@ impl Channel {
     }
 
     // A write to a register: the reset by the key, or the write that forgets the key.
-    pub fn put(self, mem: &mut [u8], reg: Register, v: u8) -> Stepped
+    pub(crate) fn put(self, mem: &mut [u8], reg: Register, v: u8) -> Stepped
         requires { ⌜ Accepted self (now mem) × Known reg ⌝ }
         ensures { λ r. ⌜ (r ≡ putOf self reg v) × (now (mem .exit) ≡ putStore self (now (mem .entry)) reg v) ⌝ }
     {

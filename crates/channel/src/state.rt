@@ -1,10 +1,9 @@
 // The record of a channel, what a step answers, and the changes of one part of the record.
 ghost use mathlib.Core.Path.{_≡_};
 ghost use Prim.Native.Nat.{ℕ};
-ghost use Rattle.channel.specs.State.{fresh, answered, refused, replied, acted, withWalk, withFlags, withKey, phaseSet, idled};
+ghost use Rattle.channel.specs.State.{fresh, refused, replied, acted, withWalk, withFlags, withKey};
 use rules::Action;
 use rules::Flags;
-use rules::Phase;
 use rules::Ptrs;
 use rules::Regs;
 use rules::Walk;
@@ -55,36 +54,20 @@ impl Channel {
                 tp: false,
                 te: false,
             },
-            flags: Flags {
-                sd: false,
-                fld: false,
-                we: false,
-                re: false,
-                dae: false,
-                cle: false,
-                sse: false,
-                fe: false,
-            },
+            flags: rules::no_flags(),
             ptrs: Ptrs {
                 sla: 0,
                 conf: 0,
                 buf: 0,
                 count: 0,
             },
-            walk: Walk {
-                phase: Phase::Idle,
-                ended: 0,
-                sto: false,
-                seq: false,
-                fe: false,
-                error: false,
-            },
+            walk: rules::idle_walk(),
             key: false,
         }
     }
 
     // The record with an answer's number and nothing else.
-    pub fn refuse(self, number: u8) -> Stepped
+    pub(crate) fn refuse(self, number: u8) -> Stepped
         ensures { λ r. ⌜ r ≡ refused self number ⌝ }
     {
         Stepped {
@@ -98,7 +81,7 @@ impl Channel {
     }
 
     // The record with the value of a read.
-    pub fn reply(self, value: u8) -> Stepped
+    pub(crate) fn reply(self, value: u8) -> Stepped
         ensures { λ r. ⌜ r ≡ replied self value ⌝ }
     {
         Stepped {
@@ -112,7 +95,7 @@ impl Channel {
     }
 
     // The record with an action.
-    pub fn act(self, action: Action) -> Stepped
+    pub(crate) fn act(self, action: Action) -> Stepped
         ensures { λ r. ⌜ r ≡ acted self action ⌝ }
     {
         Stepped {
@@ -125,7 +108,7 @@ impl Channel {
         }
     }
 
-    pub fn with_walk(self, w: Walk) -> Channel
+    pub(crate) fn with_walk(self, w: Walk) -> Channel
         ensures { λ r. ⌜ r ≡ withWalk self w ⌝ }
     {
         let mut c = self;
@@ -133,7 +116,7 @@ impl Channel {
         c
     }
 
-    pub fn with_key(self, key: bool) -> Channel
+    pub(crate) fn with_key(self, key: bool) -> Channel
         ensures { λ r. ⌜ r ≡ withKey self key ⌝ }
     {
         let mut c = self;
@@ -141,32 +124,11 @@ impl Channel {
         c
     }
 
-    // The next phase, with what is recorded.
-    pub fn to_phase(self, phase: Phase) -> Channel
-        ensures { λ r. ⌜ r ≡ phaseSet self phase ⌝ }
+    pub(crate) fn with_flags(self, f: Flags) -> Channel
+        ensures { λ r. ⌜ r ≡ withFlags self f ⌝ }
     {
-        let w = self.walk;
-        self.with_walk(Walk {
-            phase,
-            ended: w.ended,
-            sto: w.sto,
-            seq: w.seq,
-            fe: w.fe,
-            error: w.error,
-        })
-    }
-
-    // Idle, with nothing recorded and no frame ended.
-    pub fn to_idle(self) -> Channel
-        ensures { λ r. ⌜ r ≡ idled self ⌝ }
-    {
-        self.with_walk(Walk {
-            phase: Phase::Idle,
-            ended: 0,
-            sto: false,
-            seq: false,
-            fe: false,
-            error: false,
-        })
+        let mut c = self;
+        c.flags = f;
+        c
     }
 }

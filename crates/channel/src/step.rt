@@ -1,7 +1,6 @@
 // One step of a single channel: a write, a read, or an event of the wires.
 ghost use mathlib.Core.Path.{_≡_};
 ghost use Prim.Native.Nat.{ℕ};
-ghost use mathlib.Core.Bool.{true};
 ghost use lib.ListN.{length};
 ghost use Rattle.rules.specs.Registers.{KnownPlace};
 ghost use Rattle.channel.specs.Range.{inRange};
@@ -12,6 +11,7 @@ use rules::Event;
 use rules::Place;
 use rules::Turn;
 
+// A step of a single channel: a write of a byte at an address, a read at an address, or what its wires did.
 pub enum Op {
     Write(u8, u8),
     Read(u8),

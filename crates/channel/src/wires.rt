@@ -1,14 +1,17 @@
 // Document 01, 'A sequence on the wires': frames, events and trigger edges over a channel's record.
+ghost use mathlib.Core.Bool.{true};
 ghost use mathlib.Core.Path.{_≡_};
 ghost use Prim.Native.Nat.{ℕ, _+_, _<_, _≤_};
-ghost use lib.ListN.{length, getD, set};
+ghost use lib.ListN.{length, set};
 ghost use Rattle.rules.specs.Tables.{startOf, Running};
 ghost use Rattle.rules.specs.Wires.{Exists, Ready, nextOf};
-ghost use Rattle.channel.specs.State.{countOf, waited, sdSet, sdFldSet, weSet, reSet, daeSet, cleSet, sseSet, feSet, feRecorded, errorNoted};
-ghost use Rattle.channel.specs.Wires.{lengthOf, bytesOf, byteAt, resolved, haltOf, endedBy, frameEnded, passed, stopped, sentTo, movedTo, onward, finished, startedBy, started, cleared, beganBy, begun, byteSent, sendOn, clocked, ackAddress, countedOne, ackSending, receiveOn, received, noted, failed, failedBy, nacked, lateBy, faulted, turned, turnStore, edgeBy, triggered, Counting, Meets};
+ghost use Rattle.channel.specs.State.{countOf, phaseSet, idled};
+ghost use Rattle.channel.specs.Range.{inRange};
+ghost use Rattle.channel.specs.Wires.{lengthOf, bytesOf, byteAt, resolved, haltOf, endedBy, frameEnded, passed, stopped, sentTo, movedTo, onward, finished, startedBy, started, cleared, beganBy, begun, byteSent, sendOn, clocked, ackAddress, countedOne, ackSending, receiveOn, received, noted, failed, failedBy, nacked, lateBy, faulted, turned, turnStore, beaten, triggered, Counting, Meets};
 use crate::state::Channel;
 use crate::state::Stepped;
 use rules::Action;
+use rules::Beat;
 use rules::Beginning;
 use rules::Edge;
 use rules::Ending;
@@ -18,109 +21,21 @@ use rules::Next;
 use rules::Phase;
 use rules::Tail;
 use rules::Turn;
-use rules::Walk;
 
 impl Channel {
-    // ---- flags of CHSTATUS, and what is recorded
+    // ---- small changes
 
-    fn set_sd(self) -> Channel
-        ensures { λ r. ⌜ r ≡ sdSet self ⌝ }
-    {
-        let mut c = self;
-        c.flags.sd = true;
-        c
-    }
-
-    fn set_sd_fld(self, fld: bool) -> Channel
-        ensures { λ r. ⌜ r ≡ sdFldSet self fld ⌝ }
-    {
-        let mut c = self;
-        c.flags.sd = true;
-        c.flags.fld = fld;
-        c
-    }
-
-    fn set_we(self) -> Channel
-        ensures { λ r. ⌜ r ≡ weSet self ⌝ }
-    {
-        let mut c = self;
-        c.flags.we = true;
-        c
-    }
-
-    fn set_re(self) -> Channel
-        ensures { λ r. ⌜ r ≡ reSet self ⌝ }
-    {
-        let mut c = self;
-        c.flags.re = true;
-        c
-    }
-
-    fn set_dae(self) -> Channel
-        ensures { λ r. ⌜ r ≡ daeSet self ⌝ }
-    {
-        let mut c = self;
-        c.flags.dae = true;
-        c
-    }
-
-    fn set_cle(self) -> Channel
-        ensures { λ r. ⌜ r ≡ cleSet self ⌝ }
-    {
-        let mut c = self;
-        c.flags.cle = true;
-        c
-    }
-
-    fn set_sse(self) -> Channel
-        ensures { λ r. ⌜ r ≡ sseSet self ⌝ }
-    {
-        let mut c = self;
-        c.flags.sse = true;
-        c
-    }
-
-    fn set_fe(self) -> Channel
-        ensures { λ r. ⌜ r ≡ feSet self ⌝ }
-    {
-        let mut c = self;
-        c.flags.fe = true;
-        c
-    }
-
-    fn record_fe(self) -> Channel
-        ensures { λ r. ⌜ r ≡ feRecorded self ⌝ }
-    {
-        let mut c = self;
-        c.walk.fe = true;
-        c
-    }
-
-    fn note_error(self) -> Channel
-        ensures { λ r. ⌜ r ≡ errorNoted self ⌝ }
+    fn to_phase(self, phase: Phase) -> Channel
+        ensures { λ r. ⌜ r ≡ phaseSet self phase ⌝ }
     {
         let w = self.walk;
-        self.with_walk(Walk {
-            phase: Phase::Stopping,
-            ended: w.ended,
-            sto: w.sto,
-            seq: w.seq,
-            fe: w.fe,
-            error: true,
-        })
+        self.with_walk(rules::to_phase(w, phase))
     }
 
-    pub fn to_waiting(self, ended: usize) -> Channel
-        ensures { λ r. ⌜ r ≡ waited self ended ⌝ }
+    fn to_idle(self) -> Channel
+        ensures { λ r. ⌜ r ≡ idled self ⌝ }
     {
-        self.with_walk(Walk {
-            phase: Phase::Waiting,
-            ended,
-            sto: false,
-            seq: false,
-            fe: false,
-            error: false,
-        })
+        self.with_walk(rules::idle_walk())
     }
 
     fn resolve(self, n: usize, status: u8) -> Channel
@@ -141,22 +56,11 @@ impl Channel {
 
     // ---- the frame's end
 
-    fn end_last(self) -> Channel
-        ensures { λ r. ⌜ r ≡ endedBy self (Ending.Sd) ⌝ }
-    {
-        let fld = rules::fld_after(self.regs.te, self.settings[0], self.flags.fld);
-        self.set_sd_fld(fld).to_idle()
-    }
-
-    pub fn end_by(self, e: Ending) -> Channel
+    pub(crate) fn end_by(self, e: Ending) -> Channel
         ensures { λ r. ⌜ r ≡ endedBy self e ⌝ }
     {
-        match e {
-            Ending::Fe => self.set_fe().to_idle(),
-            Ending::Error => self.to_idle(),
-            Ending::Sd => self.end_last(),
-            Ending::Wait(n) => self.set_sd().to_waiting(n),
-        }
+        let f = rules::end_flags(self.flags, self.regs.te, self.settings[0], e);
+        self.with_flags(f).with_walk(rules::end_walk(e))
     }
 
     fn end_frame(self) -> Channel
@@ -273,7 +177,7 @@ impl Channel {
         }
     }
 
-    pub fn begin(self) -> Stepped
+    pub(crate) fn begin(self) -> Stepped
         requires { ⌜ countOf self ≤ 64 ⌝ }
         ensures { λ r. ⌜ r ≡ begun self ⌝ }
     {
@@ -391,13 +295,15 @@ impl Channel {
     fn note(self, read: bool) -> Channel
         ensures { λ r. ⌜ r ≡ noted self read ⌝ }
     {
-        if read { self.set_re() } else { self.set_we() }
+        let f = rules::nack_flags(self.flags, read);
+        self.with_flags(f)
     }
 
     fn fail(self) -> Stepped
         ensures { λ r. ⌜ r ≡ failed self ⌝ }
     {
-        self.note_error().act(Action::P)
+        let w = self.walk;
+        self.with_walk(rules::note_error(w)).act(Action::P)
     }
 
     fn fail_by(self, n: usize, masked: bool) -> Stepped
@@ -426,26 +332,22 @@ impl Channel {
     fn be_late(self) -> Channel
         ensures { λ r. ⌜ r ≡ lateBy self ⌝ }
     {
-        if rules::bit(self.regs.intmsk, 0x01) {
-            self.set_fe()
-        } else {
-            self.record_fe()
-        }
+        let w = self.walk;
+        let femsk = rules::bit(self.regs.intmsk, 0x01);
+        let f = rules::late_flags(self.flags, femsk);
+        self.with_flags(f).with_walk(rules::late_walk(w, femsk))
     }
 
     fn fault(self, f: Fault) -> Channel
         ensures { λ r. ⌜ r ≡ faulted self f ⌝ }
     {
-        match f {
-            Fault::Dae => self.set_dae().to_idle(),
-            Fault::Cle => self.set_cle().to_idle(),
-            Fault::Sse => self.set_sse().to_idle(),
-        }
+        let g = rules::fault_flags(self.flags, f);
+        self.with_flags(g).to_idle()
     }
 
     // ---- an event, and a trigger edge
 
-    pub fn turn(self, mem: &mut [u8], t: Turn) -> Stepped
+    pub(crate) fn turn(self, mem: &mut [u8], t: Turn) -> Stepped
         requires { ⌜ Meets self t × (length (now mem) ≡ 4352) ⌝ }
         ensures { λ r. ⌜ (r ≡ turned self (now (mem .entry)) t) × (now (mem .exit) ≡ turnStore self (now (mem .entry)) t) ⌝ }
     {
@@ -463,32 +365,25 @@ impl Channel {
         }
     }
 
-    fn edge_by(self, t: Turn) -> Stepped
+    fn beat(self, b: Beat) -> Stepped
         requires { ⌜ countOf self ≤ 64 ⌝ }
-        ensures { λ r. ⌜ r ≡ edgeBy self t ⌝ }
+        ensures { λ r. ⌜ r ≡ beaten self b ⌝ }
     {
-        match t {
-            Turn::Unawaited => self.refuse(0),
-            Turn::AckAddress(_) => self.refuse(0),
-            Turn::AckSending(_) => self.refuse(0),
-            Turn::NackAddress(_) => self.refuse(0),
-            Turn::NackSending(_) => self.refuse(0),
-            Turn::Receive(_, _) => self.refuse(0),
-            Turn::Begin => self.begin(),
-            Turn::Late => self.be_late().refuse(0),
-            Turn::End => self.refuse(0),
-            Turn::Fault(_) => self.refuse(0),
+        match b {
+            Beat::Quiet => self.refuse(0),
+            Beat::Begin => self.begin(),
+            Beat::Late => self.be_late().refuse(0),
         }
     }
 
     // A trigger edge's effect on this channel, for the whole part's step.
     pub fn trigger(self, edge: Edge) -> Stepped
-        requires { ⌜ countOf self ≤ 64 ⌝ }
+        requires { ⌜ inRange self ≡ true ⌝ }
         ensures { λ r. ⌜ r ≡ triggered self edge ⌝ }
     {
         let w = self.walk;
         let p = w.phase;
-        let t = rules::edge_turn(p, self.regs.te, self.regs.tp, edge);
-        self.edge_by(t)
+        let b = rules::edge_beat(p, self.regs.te, self.regs.tp, edge);
+        self.beat(b)
     }
 }

@@ -15,7 +15,10 @@ use Rattle.rules.specs.declared.wires.Edge.the-variants.{Rising, Falling
 use Rattle.rules.specs.declared.wires.Action.{Action}
 use Rattle.rules.specs.declared.wires.Action.the-variants.{R, Np, Nr, P}
 use Rattle.rules.specs.declared.wires.Turn.{Turn}
-use Rattle.rules.specs.declared.wires.Turn.the-variants.{Unawaited, AckAddress, AckSending, NackAddress, NackSending, Receive, Begin as BeginTurn, Late, End, Fault}
+use Rattle.rules.specs.declared.wires.Turn.the-variants.{Unawaited, AckAddress, AckSending, NackAddress, NackSending, Receive, Begin as BeginTurn, Late as LateTurn, End, Fault as Faulty}
+use Rattle.rules.specs.declared.wires.Beat.{Beat}
+use Rattle.rules.specs.declared.wires.Beat.the-variants.{Quiet, Begin, Late}
+use Rattle.rules.specs.declared.wires.Fault.{Fault}
 use Rattle.rules.specs.declared.wires.Fault.the-variants.{Dae, Cle, Sse}
 use Rattle.rules.specs.declared.wires.Move.{Move}
 use Rattle.rules.specs.declared.wires.Move.the-variants.{Halt, Send}
@@ -28,7 +31,7 @@ use Rattle.rules.specs.declared.wires.Beginning.the-variants.{Empty, Unf
 use Rattle.rules.specs.declared.wires.Ending.{Ending}
 use Rattle.rules.specs.declared.wires.Ending.the-variants.{Fe, Error, Sd, Wait}
 use Rattle.rules.specs.declared.wires.Ask.{Ask}
-use Rattle.rules.specs.declared.wires.Ask.the-variants.{Nothing, Overrun, Begin, Wait as WaitAsk, Sto, Seq, Leave}
+use Rattle.rules.specs.declared.wires.Ask.the-variants.{Nothing, Overrun, Begin as BeginAsk, Wait as WaitAsk, Sto, Seq, Leave}
 use Rattle.rules.specs.Registers.{bitOf}
 use Rattle.rules.specs.Tables.{firstSent}
 
@@ -36,7 +39,7 @@ use Rattle.rules.specs.Tables.{firstSent}
 
 -- STA written 1 when Idle begins a frame, or Waiting if TE is 1
 unfoldable pub startAsked : Bool → Bool → Ask
-startAsked sta te = if sta then (if te then WaitAsk else Begin) else Nothing
+startAsked sta te = if sta then (if te then WaitAsk else BeginAsk) else Nothing
 
 -- both written, only STO counts; otherwise they are recorded
 unfoldable pub stopAsked : Bool → Bool → Ask
@@ -82,7 +85,7 @@ abbrev pub Exists : Move → Type 0
 Exists Halt = Unit {0}
 Exists (Send n) = n < 64
 
--- after byte n, or the address (0): a byte is left and is sent, or cut short where FE or STO is recorded; or the transaction is done
+-- after n bytes (0: the address): a byte is left and is sent, or cut short where FE or STO is recorded; or the transaction is done
 unfoldable pub nextOf : Bool → ℕ → ℕ → Next
 nextOf halt n len = if ltb n len then (if halt then Cut else More) else Over
 
@@ -136,20 +139,26 @@ byteTurn Stopping b = Unawaited
 byteTurn Waiting b = Unawaited
 
 -- begins a frame if Waiting, is late if a frame runs, and does nothing if Idle
-abbrev pub clockTurn : Phase → Turn
-clockTurn Idle = Unawaited
-clockTurn (Address n) = Late
-clockTurn (Sending n) = Late
-clockTurn (Receiving n) = Late
-clockTurn Stopping = Late
-clockTurn Waiting = BeginTurn
+abbrev pub beatOf : Phase → Beat
+beatOf Idle = Quiet
+beatOf (Address n) = Late
+beatOf (Sending n) = Late
+beatOf (Receiving n) = Late
+beatOf Stopping = Late
+beatOf Waiting = Begin
+
+-- a TICK that does nothing is not awaited
+abbrev pub beatTurn : Beat → Turn
+beatTurn Quiet = Unawaited
+beatTurn Begin = BeginTurn
+beatTurn Late = LateTurn
 
 -- TICK (TE 0, FRAMECNT not 1)
 unfoldable pub tickingOf : Bool → ℕ → Bool
 tickingOf te framecnt = if te then false else not (eqb framecnt 1)
 
 unfoldable pub tickTurn : Phase → Bool → ℕ → Turn
-tickTurn p te framecnt = if tickingOf te framecnt then clockTurn p else Unawaited
+tickTurn p te framecnt = if tickingOf te framecnt then beatTurn (beatOf p) else Unawaited
 
 -- STOP in Stopping ends the frame
 abbrev pub stopTurn : Phase → Turn
@@ -163,7 +172,7 @@ stopTurn Waiting = Unawaited
 -- SDA (Address only) sets DAE
 abbrev pub sdaTurn : Phase → Turn
 sdaTurn Idle = Unawaited
-sdaTurn (Address n) = Fault Dae
+sdaTurn (Address n) = Faulty Dae
 sdaTurn (Sending n) = Unawaited
 sdaTurn (Receiving n) = Unawaited
 sdaTurn Stopping = Unawaited
@@ -172,11 +181,11 @@ sdaTurn Waiting = Unawaited
 -- SCL (any active phase) sets CLE
 abbrev pub sclTurn : Phase → Turn
 sclTurn Idle = Unawaited
-sclTurn (Address n) = Fault Cle
-sclTurn (Sending n) = Fault Cle
-sclTurn (Receiving n) = Fault Cle
-sclTurn Stopping = Fault Cle
-sclTurn Waiting = Fault Cle
+sclTurn (Address n) = Faulty Cle
+sclTurn (Sending n) = Faulty Cle
+sclTurn (Receiving n) = Faulty Cle
+sclTurn Stopping = Faulty Cle
+sclTurn Waiting = Faulty Cle
 
 -- ILL (any phase) sets SSE
 unfoldable pub turnOf : Phase → Bool → ℕ → Event → Turn
@@ -187,7 +196,7 @@ turnOf p te framecnt Tick = tickTurn p te framecnt
 turnOf p te framecnt Stop = stopTurn p
 turnOf p te framecnt Sda = sdaTurn p
 turnOf p te framecnt Scl = sclTurn p
-turnOf p te framecnt Ill = Fault Sse
+turnOf p te framecnt Ill = Faulty Sse
 
 -- ---- a frame's end
 
@@ -215,5 +224,5 @@ abbrev pub matchesOf : Bool → Edge → Bool
 matchesOf tp Rising = not tp
 matchesOf tp Falling = tp
 
-unfoldable pub edgeTurn : Phase → Bool → Bool → Edge → Turn
-edgeTurn p te tp edge = if te then (if matchesOf tp edge then clockTurn p else Unawaited) else Unawaited
+unfoldable pub edgeBeat : Phase → Bool → Bool → Edge → Beat
+edgeBeat p te tp edge = if te then (if matchesOf tp edge then beatOf p else Quiet) else Quiet

@@ -2,8 +2,7 @@
 ghost use mathlib.Core.Path.{_≡_};
 ghost use Prim.Native.Nat.{ℕ, _+_, _<_, _≤_};
 ghost use lib.ListN.{getD};
-ghost use Rattle.rules.specs.Wires.{ackTurn, nackTurn, byteTurn, tickingOf, clockTurn, tickTurn, stopTurn, sdaTurn, sclTurn, turnOf, matchesOf, edgeTurn, haltedOf, reachOf, moveOf, Exists, nextOf, Ready, stopBy, againBy, maskedOf, beginningOf, restOf, endingOf, fldAfter, stopAsked, leaveAsked, startAsked, askedIn, askOf};
-ghost use Rattle.rules.specs.Tables.{Running};
+ghost use Rattle.rules.specs.Wires.{ackTurn, nackTurn, byteTurn, tickingOf, beatOf, beatTurn, tickTurn, stopTurn, sdaTurn, sclTurn, turnOf, matchesOf, edgeBeat, haltedOf, reachOf, moveOf, Exists, nextOf, Ready, stopBy, againBy, maskedOf, beginningOf, restOf, endingOf, fldAfter, stopAsked, leaveAsked, startAsked, askedIn, askOf};
 use crate::registers::Command;
 use crate::registers::bit;
 use crate::state::Phase;
@@ -52,6 +51,13 @@ pub enum Turn {
     Late,
     End,
     Fault(Fault),
+}
+
+// What a TICK or a matching trigger edge does: nothing, begin a frame, or be late.
+pub enum Beat {
+    Quiet,
+    Begin,
+    Late,
 }
 
 // SDA, SCL and ILL, by the flag that each sets.
@@ -147,16 +153,26 @@ fn byte_turn(p: Phase, b: u8) -> Turn
     }
 }
 
-fn clock_turn(p: Phase) -> Turn
-    ensures { λ r. ⌜ r ≡ clockTurn p ⌝ }
+fn beat_of(p: Phase) -> Beat
+    ensures { λ r. ⌜ r ≡ beatOf p ⌝ }
 {
     match p {
-        Phase::Idle => Turn::Unawaited,
-        Phase::Address(_) => Turn::Late,
-        Phase::Sending(_) => Turn::Late,
-        Phase::Receiving(_) => Turn::Late,
-        Phase::Stopping => Turn::Late,
-        Phase::Waiting => Turn::Begin,
+        Phase::Idle => Beat::Quiet,
+        Phase::Address(_) => Beat::Late,
+        Phase::Sending(_) => Beat::Late,
+        Phase::Receiving(_) => Beat::Late,
+        Phase::Stopping => Beat::Late,
+        Phase::Waiting => Beat::Begin,
+    }
+}
+
+fn beat_turn(b: Beat) -> Turn
+    ensures { λ r. ⌜ r ≡ beatTurn b ⌝ }
+{
+    match b {
+        Beat::Quiet => Turn::Unawaited,
+        Beat::Begin => Turn::Begin,
+        Beat::Late => Turn::Late,
     }
 }
 
@@ -209,7 +225,7 @@ fn tick_turn(p: Phase, te: bool, framecnt: u8) -> Turn
     ensures { λ r. ⌜ r ≡ tickTurn p te framecnt ⌝ }
 {
     if ticking(te, framecnt) {
-        clock_turn(p)
+        beat_turn(beat_of(p))
     } else {
         Turn::Unawaited
     }
@@ -240,18 +256,14 @@ fn matches(tp: bool, edge: Edge) -> bool
     }
 }
 
-// What a trigger edge comes to.
-pub fn edge_turn(p: Phase, te: bool, tp: bool, edge: Edge) -> Turn
-    ensures { λ r. ⌜ r ≡ edgeTurn p te tp edge ⌝ }
+// What a trigger edge does.
+pub fn edge_beat(p: Phase, te: bool, tp: bool, edge: Edge) -> Beat
+    ensures { λ r. ⌜ r ≡ edgeBeat p te tp edge ⌝ }
 {
     if te {
-        if matches(tp, edge) {
-            clock_turn(p)
-        } else {
-            Turn::Unawaited
-        }
+        if matches(tp, edge) { beat_of(p) } else { Beat::Quiet }
     } else {
-        Turn::Unawaited
+        Beat::Quiet
     }
 }
 
@@ -290,7 +302,7 @@ pub fn next_move(halt: bool, to: usize, count: usize) -> Move
     }
 }
 
-// What follows byte n of a transaction.
+// What follows n bytes of a transaction.
 pub fn next_byte(halt: bool, n: usize, len: usize) -> Next
     ensures { λ r. ⌜ (r ≡ nextOf halt n len) × Ready r n len ⌝ }
 {
@@ -362,7 +374,7 @@ pub fn rest(te: bool, framecnt: u8, ended: usize) -> Ending
     }
 }
 
-// The first of the frame-end rules that applies to a frame that ended by its STOP.
+// The first of the frame-end rules that applies.
 pub fn ends(fe: bool, error: bool, sto: bool, seq: bool, rest: Ending) -> Ending
     ensures { λ r. ⌜ r ≡ endingOf fe error sto seq rest ⌝ }
 {

@@ -19,7 +19,7 @@ use Rattle.rules.specs.declared.wires.Turn.{Turn}
 use Rattle.rules.specs.Registers.{Known, KnownPlace}
 use Rattle.rules.specs.Tables.{fitting, readsOf, Running}
 use Rattle.rules.specs.Range.{standing, countedIn, frameAt, frameIn}
-use Rattle.rules.specs.Wires.{ackTurn, nackTurn, byteTurn, clockTurn, tickingOf, tickTurn, stopTurn, sdaTurn, sclTurn, turnOf}
+use Rattle.rules.specs.Wires.{ackTurn, nackTurn, byteTurn, beatOf, beatTurn, tickingOf, tickTurn, stopTurn, sdaTurn, sclTurn, turnOf}
 use Rattle.channel.specs.declared.state.Channel.{Channel}
 use Rattle.channel.specs.Range.{inRange}
 use Rattle.channel.specs.State.{countOf, framecntOf}
@@ -85,17 +85,17 @@ module _ (c : Channel) (k : countOf c ≤ 64) where
   byte-meets Stopping b e = tt
   byte-meets Waiting b e = tt
 
-  clock-meets : (p : Phase) → Meets c (clockTurn p)
-  clock-meets Idle = tt
-  clock-meets (Address n) = tt
-  clock-meets (Sending n) = tt
-  clock-meets (Receiving n) = tt
-  clock-meets Stopping = tt
-  clock-meets Waiting = k
+  beat-meets : (p : Phase) → Meets c (beatTurn (beatOf p))
+  beat-meets Idle = tt
+  beat-meets (Address n) = tt
+  beat-meets (Sending n) = tt
+  beat-meets (Receiving n) = tt
+  beat-meets Stopping = tt
+  beat-meets Waiting = k
 
   tick-meets : (p : Phase) (te : Bool) (n : ℕ) → Meets c (tickTurn p te n)
   unfolding tickTurn
-  tick-meets p te n = pick-holds (Meets c) (tickingOf te n) (λ _. clock-meets p) (λ _. tt)
+  tick-meets p te n = pick-holds (Meets c) (tickingOf te n) (λ _. beat-meets p) (λ _. tt)
 
   stop-meets : (p : Phase) → Meets c (stopTurn p)
   stop-meets Idle = tt

@@ -1,12 +1,11 @@
 -- What a walk may rely on, carried from one change of the record to the next.
-use mathlib.Core.Bool.{Bool, true, false}
-use mathlib.Core.Path.{_≡_, refl}
+use mathlib.Core.Bool.{Bool}
+use mathlib.Core.Path.{_≡_}
 use mathlib.Core.List.{List}
 use Prim.Native.Nat.{ℕ, _+_, _<_, _≤_}
 use native.Mathlib.Omega.{arith}
 use borrow.Author.Needs.{needs}
 use lib.ListN.{getD}
-use Rattle.laws.specs.Pick.{if_then_else_}
 use Rattle.rules.specs.declared.wires.Move.{Move}
 use Rattle.rules.specs.declared.wires.Move.the-variants.{Send}
 use Rattle.rules.specs.declared.wires.Turn.{Turn}
@@ -30,13 +29,8 @@ pub ruleset moves = (exists-send)
 pub running-kept : (c d x : Channel) (n : ℕ) → Running (c .tranconfig) n → d ≡ x → x .tranconfig ≡ c .tranconfig → Running (d .tranconfig) n
 running-kept c d x n r e q = rw (e, q) r
 
-noted-kept : (c : Channel) (read : Bool) → noted c read .tranconfig ≡ c .tranconfig
-unfolding noted if_then_else_
-noted-kept c true = refl
-noted-kept c false = refl
-
 pub running-noted : (c d e : Channel) (n k v : ℕ) (read : Bool) → Running (c .tranconfig) n → d ≡ resolved c k v → e ≡ noted d read → Running (e .tranconfig) n
-running-noted c d e n k v read r p q = rw (q, noted-kept d read, p) r
+running-noted c d e n k v read r p q = rw (q, p) r
 
 -- ---- one byte more is one of the buffer
 pub byte-in : (l : List ℕ) (n k len : ℕ) (x : Next) → Running l n → Ready x k (getD l (n + 1) 0) → x ≡ More → len ≡ 4352 → startOf l n + k < len

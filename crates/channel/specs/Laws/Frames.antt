@@ -18,6 +18,8 @@ use Rattle.rules.specs.declared.wires.Event.the-variants.{Ack, Nack, Byte, Tick
 use Rattle.rules.specs.declared.wires.Edge.{Edge}
 use Rattle.rules.specs.declared.wires.Fault.{Fault}
 use Rattle.rules.specs.declared.wires.Fault.the-variants.{Dae, Cle, Sse}
+use Rattle.rules.specs.declared.wires.Beat.{Beat}
+use Rattle.rules.specs.declared.wires.Beat.the-variants.{Quiet, Begin, Late}
 use Rattle.rules.specs.declared.wires.Turn.{Turn}
 use Rattle.rules.specs.declared.wires.Turn.the-variants.{Unawaited}
 use Rattle.rules.specs.declared.wires.Move.{Move}
@@ -31,14 +33,15 @@ use Rattle.rules.specs.declared.wires.Ending.{Ending}
 use Rattle.rules.specs.declared.wires.Ending.the-variants.{Fe, Error, Sd, Wait}
 use Rattle.rules.specs.Tables.{fitting, readsOf, skippedOf, firstSent}
 use Rattle.rules.specs.Range.{pointersIn, registersIn, countingOf, endedIn, blankOf, recordedIn, walkIn, standing, countedIn, frameAt, frameIn}
-use Rattle.rules.specs.Wires.{beginningOf, reachOf, moveOf, nextOf, restOf, endingOf, ackTurn, nackTurn, byteTurn, clockTurn, tickingOf, tickTurn, stopTurn, sdaTurn, sclTurn, turnOf, matchesOf, edgeTurn}
+use Rattle.rules.specs.Wires.{beginningOf, reachOf, moveOf, nextOf, restOf, endingOf, ackTurn, nackTurn, byteTurn, beatOf, beatTurn, tickingOf, tickTurn, stopTurn, sdaTurn, sclTurn, turnOf, matchesOf, edgeBeat}
+use Rattle.rules.specs.Walk.{idle, waiting, feRecorded, endWalk, lateFlags, lateWalk}
 use Rattle.rules.specs.Laws.Tables.{first-from}
 use Rattle.rules.specs.Laws.Range.{Stands, stands-of, of-stands, first-stands, stands-counted, registers-count}
 use Rattle.channel.specs.declared.state.Channel.{Channel}
 use Rattle.channel.specs.declared.state.Stepped.{Stepped}
-use Rattle.channel.specs.State.{idle, plain, countOf, framecntOf, withWalk, idled, waited, feRecorded}
+use Rattle.channel.specs.State.{plain, countOf, framecntOf, withFlags, withWalk, idled}
 use Rattle.channel.specs.Range.{inRange}
-use Rattle.channel.specs.Wires.{lengthOf, bytesOf, haltOf, resolved, endedBy, frameEnded, passed, stopped, sentTo, movedTo, onward, finished, startedBy, started, cleared, beganBy, begun, byteSent, sendOn, clocked, ackAddress, countedOne, ackSending, receiveOn, received, noted, failed, failedBy, nacked, lateBy, faulted, turned, edgeBy, triggered}
+use Rattle.channel.specs.Wires.{lengthOf, bytesOf, haltOf, resolved, endedBy, frameEnded, passed, stopped, sentTo, movedTo, onward, finished, startedBy, started, cleared, beganBy, begun, byteSent, sendOn, clocked, ackAddress, countedOne, ackSending, receiveOn, received, noted, failed, failedBy, nacked, lateBy, faulted, turned, femskOf, beaten, triggered}
 use Rattle.channel.specs.Laws.Range.{range-pointers, range-registers, range-walk, range-frame}
 
 -- ---- the range as its four facts
@@ -94,7 +97,7 @@ idled-in : (c : Channel) → Held c → In (idled c)
 unfolding frameIn
 idled-in c h = (h .0, h .1, idle-walk _ _, refl)
 
-pub waited-in : (c : Channel) (n : ℕ) → Held c → Ends c n → In (waited c n)
+pub waited-in : (c : Channel) (n : ℕ) → Held c → Ends c n → In (withWalk c (waiting n))
 unfolding frameIn walkIn recordedIn blankOf if_then_else_
 waited-in c n h e = (h .0, h .1, with _ _ e refl, refl)
 
@@ -120,7 +123,7 @@ ending-waits te n fe error sto seq r h =
     (λ _. pick-holds (Waits te n) sto (λ _. tt) (λ _. pick-holds (Waits te n) seq (λ _. tt) (λ _. h))))
 
 ended-in : (c : Channel) (e : Ending) → Held c → Waits (c .regs .te) (framecntOf c) e → In (endedBy c e)
-unfolding Waits endedBy
+unfolding Waits endWalk
 ended-in c Fe h w = idled-in c h
 ended-in c Error h w = idled-in c h
 ended-in c Sd h w = idled-in c h
@@ -300,16 +303,11 @@ failed-in : (c : Channel) → Runs c → Good (failed c)
 unfolding failed walkIn endedIn countingOf recordedIn frameIn
 failed-in c r = (r .0 .0, r .0 .1, with _ _ (r .2) refl, refl)
 
-noted-runs : (c : Channel) (n : ℕ) (read : Bool) → RunsAt c n → RunsAt (noted c read) n
-unfolding noted if_then_else_
-noted-runs c n true r = r
-noted-runs c n false r = r
-
 nacked-in : (c : Channel) (n v : ℕ) → RunsAt c n → Good (nacked c n v)
 unfolding nacked failedBy
 nacked-in c n v r =
-    let d = noted-runs (resolved c n v) n (readsOf (getD (c .slatable) n 0)) r in
-    pick-holds Good _ (λ _. onward-in _ n _ d) (λ _. failed-in _ (d .0))
+    let d = noted (resolved c n v) (readsOf (getD (c .slatable) n 0)) in
+    pick-holds Good _ (λ _. onward-in d n _ r) (λ _. failed-in d (r .0))
 
 -- ---- an event in the phase that it meets
 module _ (c : Channel) (m : List ℕ) (h : In c) where
@@ -383,11 +381,6 @@ module _ (c : Channel) (m : List ℕ) (h : In c) where
   byte-in Stopping b i = h
   byte-in Waiting b i = h
 
-  -- FE set is a flag; FE recorded is no error end
-  late-in : In (feRecorded c) → In (lateBy c)
-  unfolding lateBy
-  late-in r = pick-holds In _ (λ _. h) (λ _. r)
-
   -- another walk in the same phase, with as many frames ended
   pub rewalked : (w : Walk) → w .phase ≡ c .walk .phase → w .ended ≡ c .walk .ended → (p : Phase) → In-phase p → recordedIn p w ≡ true → In (withWalk c w)
   unfolding walkIn
@@ -401,8 +394,13 @@ module _ (c : Channel) (m : List ℕ) (h : In c) where
       , subst (λ (x : Phase). frameIn x (c .slatable) (c .tranconfig) (c .bytecount) ≡ true) s (i .3)
       )
 
-  recorded-in : (p : Phase) → In-phase p → recordedIn p (feRecorded c .walk) ≡ true → In (feRecorded c)
-  recorded-in p i r = rewalked _ refl refl p i r
+  -- late: FE set is a flag; FE recorded is no error end
+  late-in : (p : Phase) → In-phase p → recordedIn p (feRecorded (c .walk)) ≡ true → In (lateBy c)
+  unfolding lateWalk
+  late-in p i r =
+      pick-holds (λ (w : Walk). In (withWalk (withFlags c (lateFlags (c .flags) (femskOf c))) w)) (femskOf c)
+      (λ _. h)
+      (λ _. rewalked _ refl refl p i r)
 
   waiting-runs : In-phase Waiting → Runs c
   unfolding recordedIn blankOf
@@ -411,15 +409,28 @@ module _ (c : Channel) (m : List ℕ) (h : In c) where
       let b = past _ _ a .1 in
       let e = past _ _ (past _ _ b .1) .0 in ((h .0, h .1), rw e, i .1)
 
+  GoodTurn : Turn → Type 0
+  GoodTurn t = Good (turned c m t)
+
+  GoodBeat : Beat → Type 0
+  GoodBeat b = Good (beaten c b)
+
   -- begins if Waiting, late if a frame runs, nothing if Idle
-  clock-in : (p : Phase) → In-phase p → Good (turned c m (clockTurn p))
-  unfolding turned recordedIn
-  clock-in Idle i = h
-  clock-in (Address n) i = late-in (recorded-in (Address n) i (i .2))
-  clock-in (Sending n) i = late-in (recorded-in (Sending n) i (i .2))
-  clock-in (Receiving n) i = late-in (recorded-in (Receiving n) i (i .2))
-  clock-in Stopping i = late-in (recorded-in Stopping i refl)
-  clock-in Waiting i = begun-in c (waiting-runs i)
+  beaten-in : (p : Phase) → In-phase p → GoodBeat (beatOf p)
+  unfolding GoodBeat beaten recordedIn
+  beaten-in Idle i = h
+  beaten-in (Address n) i = late-in (Address n) i (i .2)
+  beaten-in (Sending n) i = late-in (Sending n) i (i .2)
+  beaten-in (Receiving n) i = late-in (Receiving n) i (i .2)
+  beaten-in Stopping i = late-in Stopping i refl
+  beaten-in Waiting i = begun-in c (waiting-runs i)
+
+  -- a TICK is such a beat, or is not awaited
+  ticked-in : (b : Beat) → GoodBeat b → GoodTurn (beatTurn b)
+  unfolding GoodBeat GoodTurn beaten turned
+  ticked-in Quiet g = h
+  ticked-in Begin g = g
+  ticked-in Late g = g
 
   stop-in : (p : Phase) → Good (turned c m (stopTurn p))
   unfolding turned
@@ -431,10 +442,7 @@ module _ (c : Channel) (m : List ℕ) (h : In c) where
   stop-in Waiting = h
 
   fault-in : (f : Fault) → In (faulted c f)
-  unfolding faulted
-  fault-in Dae = idled-in c (h .0, h .1)
-  fault-in Cle = idled-in c (h .0, h .1)
-  fault-in Sse = idled-in c (h .0, h .1)
+  fault-in f = idled-in c (h .0, h .1)
 
   sda-in : (p : Phase) → Good (turned c m (sdaTurn p))
   unfolding turned
@@ -454,9 +462,6 @@ module _ (c : Channel) (m : List ℕ) (h : In c) where
   scl-in Stopping = fault-in Cle
   scl-in Waiting = fault-in Cle
 
-  GoodTurn : Turn → Type 0
-  GoodTurn t = Good (turned c m t)
-
   unawaited-in : GoodTurn Unawaited
   unfolding GoodTurn turned
   unawaited-in = h
@@ -466,7 +471,7 @@ module _ (c : Channel) (m : List ℕ) (h : In c) where
   event-in p Ack i = ack-in p i
   event-in p Nack i = nack-in p i
   event-in p (Byte b) i = byte-in p b i
-  event-in p Tick i = pick-holds GoodTurn (tickingOf (c .regs .te) (framecntOf c)) (λ _. clock-in p i) (λ _. unawaited-in)
+  event-in p Tick i = pick-holds GoodTurn (tickingOf (c .regs .te) (framecntOf c)) (λ _. ticked-in (beatOf p) (beaten-in p i)) (λ _. unawaited-in)
   event-in p Stop i = stop-in p
   event-in p Sda i = sda-in p
   event-in p Scl i = scl-in p
@@ -477,29 +482,14 @@ module _ (c : Channel) (m : List ℕ) (h : In c) where
   unfolding GoodTurn
   turn-in e = event-in (c .walk .phase) e phase-in
 
-  GoodEdge : Turn → Type 0
-  GoodEdge t = Good (edgeBy c t)
-
-  idle-edge : GoodEdge Unawaited
-  unfolding GoodEdge edgeBy
-  idle-edge = h
-
-  clock-edge : (p : Phase) → In-phase p → GoodEdge (clockTurn p)
-  unfolding GoodEdge edgeBy recordedIn
-  clock-edge Idle i = h
-  clock-edge (Address n) i = late-in (recorded-in (Address n) i (i .2))
-  clock-edge (Sending n) i = late-in (recorded-in (Sending n) i (i .2))
-  clock-edge (Receiving n) i = late-in (recorded-in (Receiving n) i (i .2))
-  clock-edge Stopping i = late-in (recorded-in Stopping i refl)
-  clock-edge Waiting i = begun-in c (waiting-runs i)
-
   -- NO TRIGGER EDGE LEADS OUT OF RANGE
-  edge-in : (edge : Edge) → Good (triggered c edge)
-  unfolding triggered edgeTurn GoodEdge
+  edge-in : (edge : Edge) → GoodBeat (edgeBeat (c .walk .phase) (c .regs .te) (c .regs .tp) edge)
+  unfolding edgeBeat GoodBeat beaten
   edge-in edge =
-      pick-holds GoodEdge (c .regs .te)
-      (λ _. pick-holds GoodEdge (matchesOf (c .regs .tp) edge) (λ _. clock-edge (c .walk .phase) phase-in) (λ _. idle-edge))
-      (λ _. idle-edge)
+      pick-holds GoodBeat (c .regs .te)
+      (λ _. pick-holds GoodBeat (matchesOf (c .regs .tp) edge) (λ _. beaten-in (c .walk .phase) phase-in) (λ _. h))
+      (λ _. h)
 
 pub trigger-in-range : (c : Channel) (edge : Edge) → inRange c ≡ true → inRange (triggered c edge .channel) ≡ true
+unfolding triggered GoodBeat
 trigger-in-range c edge e = of-in _ (edge-in c [] (in-of c e) edge)

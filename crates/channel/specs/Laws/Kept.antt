@@ -27,13 +27,14 @@ use Rattle.rules.specs.Tables.{startOf}
 use Rattle.rules.specs.Access.{lockedOf, tooMany, keptIf, rewound, atMost, pointedAt, overrunOf, keyAfter, resetsOf}
 use Rattle.rules.specs.Range.{pointersIn, registersIn, countingOf, endedIn, blankOf, recordedIn, walkIn, frameIn}
 use Rattle.rules.specs.Wires.{startAsked, stopAsked, leaveAsked, askedIn, askOf}
+use Rattle.rules.specs.Walk.{stoRecorded, seqRecorded}
 use Rattle.rules.specs.Laws.Access.{not-busy, not-past, placed, sla-open, conf-open, data-open, sel-open}
 use Rattle.rules.specs.Laws.Range.{Points, points-of, of-points, of-registers, registers-count, registers-sel, registers-mask}
 use Rattle.channel.specs.declared.state.Channel.{Channel}
 use Rattle.channel.specs.declared.state.Stepped.{Stepped}
 use Rattle.channel.specs.declared.step.Op.{Op}
 use Rattle.channel.specs.declared.step.Op.the-variants.{Write, Read, Wire}
-use Rattle.channel.specs.State.{fresh, zeros, guarded, countOf, framecntOf, withKey, stoRecorded, seqRecorded}
+use Rattle.channel.specs.State.{fresh, zeros, guarded, countOf, framecntOf, withWalk, withKey}
 use Rattle.channel.specs.Range.{inRange}
 use Rattle.channel.specs.Wires.{turnStore}
 use Rattle.channel.specs.Access.{readRefusal, readBy, readOf, moded, pointed, dataPlace, teAfter, asked, controlled, refusalOf, writtenBy, storedBy, writeOf, writeStore, putOf, putStore}
@@ -121,8 +122,8 @@ Asks c Nothing = Unit {0}
 Asks c Overrun = Unit {0}
 Asks c Begin = Runs c
 Asks c Wait = Unit {0}
-Asks c Sto = In (stoRecorded c)
-Asks c Seq = In (seqRecorded c)
+Asks c Sto = In (withWalk c (stoRecorded (c .walk)))
+Asks c Seq = In (withWalk c (seqRecorded (c .walk)))
 Asks c Leave = Unit {0}
 
 asked-in : (c : Channel) (a : Ask) → In c → Asks c a → Good (asked c a)
@@ -152,7 +153,7 @@ module _ (c : Channel) (h : In c) where
   unfolding startAsked Asks
   start-asks sta te r = pick-holds (Asks c) sta (λ _. pick-holds (Asks c) te (λ _. tt) (λ _. r)) (λ _. tt)
 
-  stop-asks : (sto seq : Bool) (p : Phase) → In-phase c [] h p → recordedIn p (stoRecorded c .walk) ≡ true → recordedIn p (seqRecorded c .walk) ≡ true → Asks c (stopAsked sto seq)
+  stop-asks : (sto seq : Bool) (p : Phase) → In-phase c [] h p → recordedIn p (stoRecorded (c .walk)) ≡ true → recordedIn p (seqRecorded (c .walk)) ≡ true → Asks c (stopAsked sto seq)
   unfolding stopAsked Asks
   stop-asks sto seq p i r s =
       pick-holds (Asks c) sto (λ _. rewalked c [] h _ refl refl p i r)

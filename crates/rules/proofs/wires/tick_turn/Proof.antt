@@ -1,7 +1,8 @@
 -- `rules::wires::tick_turn` meets its contract.
-use Rattle.laws.specs.Cases.{cases}
+use Rattle.laws.specs.Cases.{cases, pick-true}
 use Rattle.rules.specs.Wires.{tickTurn}
 use borrow.Author.Needs.{needs}
+use mathlib.Core.Path.{_∙_, sym}
 use Rattle.rules.proofs.wires.tick_turn.Statement.{statement}
 use Rattle.rules.proofs.wires.tick_turn.Tie as tie
 
@@ -12,5 +13,6 @@ tick-turn-spec =
     (tie.spec
     (λ c. search needs)
     (λ c. search needs)
-    (λ c. search cases depth 12)
+    (λ c. search needs)
+    (λ c. pick-true _ _ _ _ (sym (c .before .before .before .ticking .ensures) ∙ c .before .before .if1 .taken) (rw (c .beat-turn .ensures, c .before .beat-of .ensures)))
     (λ c. search cases depth 12))

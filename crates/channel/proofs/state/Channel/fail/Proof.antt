@@ -11,4 +11,5 @@ fail-spec =
     (tie.spec
     (λ c. search needs)
     (λ c. search needs)
-    (λ c. rw (c .act .ensures, c .before .note-error .ensures)))
+    (λ c. search needs)
+    (λ c. rw (c .act .ensures, c .before .with-walk .ensures, c .before .before .note-error .ensures)))

@@ -16,4 +16,4 @@ nack-spec =
     (λ c. search needs)
     (λ c. search needs)
     (λ c. search walks)
-    (λ c. cc))
+    (λ c. rw (c .fail-by .ensures, c .before .note .ensures, c .before .before .resolve .ensures, c .before .before .before .masked .ensures, c .before .before .before .before .reads .ensures)))

@@ -10,4 +10,5 @@ read-chstatus-spec =
     (λ c. search needs)
     (λ c. search needs)
     (λ c. search needs)
-    (λ c. rw (c .reply .ensures, c .before .clear-flags .ensures, c .before .before .chstatus-value .ensures)))
+    (λ c. search needs)
+    (λ c. rw (c .reply .ensures, c .before .with-flags .ensures, c .before .before .no-flags .ensures, c .before .before .before .chstatus-value .ensures)))

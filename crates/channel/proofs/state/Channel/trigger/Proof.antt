@@ -1,4 +1,5 @@
 -- `channel::state::Channel::trigger` meets its contract.
+use Rattle.channel.specs.Laws.Range.{range-count}
 use Rattle.channel.specs.Wires.{triggered}
 use borrow.Author.Needs.{needs}
 use Rattle.channel.proofs.state.Channel.trigger.Statement.{statement}
@@ -10,5 +11,5 @@ trigger-spec =
     tie.close
     (tie.spec
     (λ c. search needs)
-    (λ c. search needs)
+    (λ c. λ κs. range-count (c .before .before .args .self) (c .before .before .pre))
     (λ c. cc))

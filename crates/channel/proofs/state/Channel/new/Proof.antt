@@ -1,0 +1,12 @@
+-- `channel::state::Channel::new` meets its contract.
+use borrow.Author.Needs.{needs}
+use Rattle.channel.proofs.state.Channel.new.Statement.{statement}
+use Rattle.channel.proofs.state.Channel.new.Tie as tie
+
+pub new-spec : {M : Type 1} → statement M
+new-spec =
+    tie.close
+    (tie.spec
+    (λ c. search needs)
+    (λ c. search needs)
+    (λ c. rw (c .idle-walk .ensures, c .before .no-flags .ensures)))

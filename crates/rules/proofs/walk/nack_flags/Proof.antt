@@ -1,0 +1,16 @@
+-- `rules::walk::nack_flags` meets its contract.
+use Rattle.laws.specs.Cases.{cases}
+use Rattle.rules.specs.Walk.{nackFlags}
+use borrow.Author.Needs.{needs}
+use Rattle.rules.proofs.walk.nack_flags.Statement.{statement}
+use Rattle.rules.proofs.walk.nack_flags.Tie as tie
+
+pub nack-flags-spec : {M : Type 1} → statement M
+unfolding nackFlags
+nack-flags-spec =
+    tie.close
+    (tie.spec
+    (λ c. search needs)
+    (λ c. search needs)
+    (λ c. search cases depth 12)
+    (λ c. search cases depth 12))
