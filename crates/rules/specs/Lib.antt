@@ -3,4 +3,5 @@ pub mod Tables
 pub mod Access
 pub mod Range
 pub mod Wires
+pub mod Action
 pub mod Laws
