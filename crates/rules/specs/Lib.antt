@@ -4,4 +4,5 @@ pub mod Access
 pub mod Range
 pub mod Wires
 pub mod Walk
+pub mod Action
 pub mod Laws

@@ -1,5 +1,6 @@
 // The rules of document 01 that need no record of a channel: its enums and parts, and every decision and loop over them.
 mod access;
+mod action;
 mod range;
 mod registers;
 mod state;
@@ -20,6 +21,9 @@ pub use access::resets;
 pub use access::rewind;
 pub use access::sel_refusal;
 pub use access::sla_refusal;
+pub use action::Text;
+pub use action::digit;
+pub use action::spell;
 pub use range::frame_in;
 pub use range::pointers_in;
 pub use range::registers_in;
