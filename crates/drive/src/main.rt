@@ -92,8 +92,455 @@ fn say_answer(a: Answer) {
     say(b"\n");
 }
 
-// ---- one step, printed
+// ---- the sheet: four bytes a row, the sheet's line, what is done (X a fresh channel, W a write, R a read, an event's first letter), and its bytes
 
+const ROWS: usize = 105;
+
+const SHEET: [u8; 420] = [
+    // Count 0, STA: no action, CONTROL and CHSTATUS 00h.
+    2,
+    b'X',
+    0,
+    0,
+    2,
+    b'W',
+    0xC4,
+    0x00,
+    2,
+    b'W',
+    0xC0,
+    0x40,
+    2,
+    b'R',
+    0xC0,
+    0,
+    2,
+    b'R',
+    0xC1,
+    0,
+    // One write, CONTROL 60h from Idle: starts, reads 40h; its STO is ignored, so the byte is sent.
+    3,
+    b'X',
+    0,
+    0,
+    3,
+    b'W',
+    0xC4,
+    0x01,
+    3,
+    b'W',
+    0xC4,
+    0x01,
+    3,
+    b'W',
+    0xC3,
+    0x40,
+    3,
+    b'W',
+    0xC5,
+    0x7E,
+    3,
+    b'W',
+    0xC0,
+    0x60,
+    3,
+    b'R',
+    0xC0,
+    0,
+    3,
+    b'A',
+    0,
+    0,
+    3,
+    b'A',
+    0,
+    0,
+    3,
+    b'S',
+    0,
+    0,
+    3,
+    b'R',
+    0xC0,
+    0,
+    3,
+    b'R',
+    0xC1,
+    0,
+    // Write to 40h, length 0: S40, ACK gives P.
+    4,
+    b'X',
+    0,
+    0,
+    4,
+    b'W',
+    0xC4,
+    0x01,
+    4,
+    b'W',
+    0xC4,
+    0x00,
+    4,
+    b'W',
+    0xC3,
+    0x40,
+    4,
+    b'W',
+    0xC0,
+    0x40,
+    4,
+    b'A',
+    0,
+    0,
+    4,
+    b'R',
+    0x00,
+    0,
+    4,
+    b'R',
+    0xC8,
+    0,
+    // Read length 0, then write 42h length 0: first action S42, STATUS 0 is 02h.
+    5,
+    b'X',
+    0,
+    0,
+    5,
+    b'W',
+    0xC4,
+    0x02,
+    5,
+    b'W',
+    0xC4,
+    0x00,
+    5,
+    b'W',
+    0xC4,
+    0x00,
+    5,
+    b'W',
+    0xC3,
+    0x41,
+    5,
+    b'W',
+    0xC3,
+    0x42,
+    5,
+    b'W',
+    0xC0,
+    0x40,
+    5,
+    b'R',
+    0x00,
+    0,
+    5,
+    b'R',
+    0x01,
+    0,
+    // Read 41h length 2: S41, C, A, NP.
+    6,
+    b'X',
+    0,
+    0,
+    6,
+    b'W',
+    0xC4,
+    0x01,
+    6,
+    b'W',
+    0xC4,
+    0x02,
+    6,
+    b'W',
+    0xC3,
+    0x41,
+    6,
+    b'W',
+    0xC0,
+    0x40,
+    6,
+    b'A',
+    0,
+    0,
+    6,
+    b'B',
+    0xA1,
+    0,
+    6,
+    b'B',
+    0xB2,
+    0,
+    6,
+    b'R',
+    0x00,
+    0,
+    6,
+    b'R',
+    0xC8,
+    0,
+    6,
+    b'R',
+    0xC5,
+    0,
+    6,
+    b'R',
+    0xC5,
+    0,
+    // The same, STO before the ACK: C, NP, BYTECOUNT 1, STATUS 01h, CHSTATUS 80h.
+    7,
+    b'X',
+    0,
+    0,
+    7,
+    b'W',
+    0xC4,
+    0x01,
+    7,
+    b'W',
+    0xC4,
+    0x02,
+    7,
+    b'W',
+    0xC3,
+    0x41,
+    7,
+    b'W',
+    0xC0,
+    0x40,
+    7,
+    b'W',
+    0xC0,
+    0x20,
+    7,
+    b'R',
+    0xC0,
+    0,
+    7,
+    b'A',
+    0,
+    0,
+    7,
+    b'B',
+    0xA1,
+    0,
+    7,
+    b'S',
+    0,
+    0,
+    7,
+    b'R',
+    0xC8,
+    0,
+    7,
+    b'R',
+    0x00,
+    0,
+    7,
+    b'R',
+    0xC1,
+    0,
+    7,
+    b'R',
+    0xC0,
+    0,
+    // FRAMECNT 2, CHSTATUS unread: C0h at the end.
+    8,
+    b'X',
+    0,
+    0,
+    8,
+    b'W',
+    0xC9,
+    0x02,
+    8,
+    b'W',
+    0xC4,
+    0x01,
+    8,
+    b'W',
+    0xC4,
+    0x00,
+    8,
+    b'W',
+    0xC3,
+    0x40,
+    8,
+    b'W',
+    0xC0,
+    0x40,
+    8,
+    b'A',
+    0,
+    0,
+    8,
+    b'S',
+    0,
+    0,
+    8,
+    b'R',
+    0xC0,
+    0,
+    8,
+    b'T',
+    0,
+    0,
+    8,
+    b'A',
+    0,
+    0,
+    8,
+    b'S',
+    0,
+    0,
+    8,
+    b'R',
+    0xC0,
+    0,
+    8,
+    b'R',
+    0xC1,
+    0,
+    8,
+    b'R',
+    0xC1,
+    0,
+    // Writes to 40h and 42h, NACK on the first: P, CHSTATUS 20h.
+    9,
+    b'X',
+    0,
+    0,
+    9,
+    b'W',
+    0xC4,
+    0x02,
+    9,
+    b'W',
+    0xC4,
+    0x01,
+    9,
+    b'W',
+    0xC4,
+    0x01,
+    9,
+    b'W',
+    0xC3,
+    0x40,
+    9,
+    b'W',
+    0xC3,
+    0x42,
+    9,
+    b'W',
+    0xC0,
+    0x40,
+    9,
+    b'N',
+    0,
+    0,
+    9,
+    b'S',
+    0,
+    0,
+    9,
+    b'R',
+    0x00,
+    0,
+    9,
+    b'R',
+    0x01,
+    0,
+    9,
+    b'R',
+    0xC0,
+    0,
+    9,
+    b'R',
+    0xC1,
+    0,
+    // With INTMSK 20h: R42.
+    9,
+    b'X',
+    0,
+    0,
+    9,
+    b'W',
+    0xC2,
+    0x20,
+    9,
+    b'W',
+    0xC4,
+    0x02,
+    9,
+    b'W',
+    0xC4,
+    0x01,
+    9,
+    b'W',
+    0xC4,
+    0x01,
+    9,
+    b'W',
+    0xC3,
+    0x40,
+    9,
+    b'W',
+    0xC3,
+    0x42,
+    9,
+    b'W',
+    0xC5,
+    0x7E,
+    9,
+    b'W',
+    0xC5,
+    0x7F,
+    9,
+    b'W',
+    0xC0,
+    0x40,
+    9,
+    b'N',
+    0,
+    0,
+    9,
+    b'A',
+    0,
+    0,
+    9,
+    b'A',
+    0,
+    0,
+    9,
+    b'S',
+    0,
+    0,
+    9,
+    b'R',
+    0x00,
+    0,
+    9,
+    b'R',
+    0x01,
+    0,
+    9,
+    b'R',
+    0xC1,
+    0,
+];
+
+fn op_of(kind: u8, a: u8, v: u8) -> Op {
+    match kind {
+        b'W' => Op::Write(a, v),
+        b'R' => Op::Read(a),
+        b'A' => Op::Wire(Event::Ack),
+        b'N' => Op::Wire(Event::Nack),
+        b'B' => Op::Wire(Event::Byte(a)),
+        b'T' => Op::Wire(Event::Tick),
+        _ => Op::Wire(Event::Stop),
+    }
+}
+
+// One step, printed.
 fn step(c: Channel, mem: &mut [u8], line: u8, op: Op) -> Channel {
     io::print_decimal(STDOUT_FILENO, line as u64);
     say(b": ");
@@ -105,178 +552,29 @@ fn step(c: Channel, mem: &mut [u8], line: u8, op: Op) -> Channel {
     r.channel
 }
 
-fn write(c: Channel, mem: &mut [u8], line: u8, a: u8, v: u8) -> Channel {
-    step(c, mem, line, Op::Write(a, v))
-}
-
-fn read(c: Channel, mem: &mut [u8], line: u8, a: u8) -> Channel {
-    step(c, mem, line, Op::Read(a))
-}
-
-fn event(c: Channel, mem: &mut [u8], line: u8, e: Event) -> Channel {
-    step(c, mem, line, Op::Wire(e))
-}
-
-// ---- the sheet, each line from a fresh channel
-
-// Count 0, STA: no action, CONTROL and CHSTATUS 00h.
-fn line_2() {
-    let mut mem = [0u8; 4352];
-    let c = Channel::new();
-    let c = write(c, &mut mem, 2, 0xC4, 0x00);
-    let c = write(c, &mut mem, 2, 0xC0, 0x40);
-    let c = read(c, &mut mem, 2, 0xC0);
-    read(c, &mut mem, 2, 0xC1);
-}
-
-// One write, CONTROL 60h from Idle: starts, reads 40h. The STO of that write is ignored, so the byte is still sent.
-fn line_3() {
-    let mut mem = [0u8; 4352];
-    let c = Channel::new();
-    let c = write(c, &mut mem, 3, 0xC4, 0x01);
-    let c = write(c, &mut mem, 3, 0xC4, 0x01);
-    let c = write(c, &mut mem, 3, 0xC3, 0x40);
-    let c = write(c, &mut mem, 3, 0xC5, 0x7E);
-    let c = write(c, &mut mem, 3, 0xC0, 0x60);
-    let c = read(c, &mut mem, 3, 0xC0);
-    let c = event(c, &mut mem, 3, Event::Ack);
-    let c = event(c, &mut mem, 3, Event::Ack);
-    let c = event(c, &mut mem, 3, Event::Stop);
-    let c = read(c, &mut mem, 3, 0xC0);
-    read(c, &mut mem, 3, 0xC1);
-}
-
-// Write to 40h, length 0: S40, ACK gives P. The address isn't counted.
-fn line_4() {
-    let mut mem = [0u8; 4352];
-    let c = Channel::new();
-    let c = write(c, &mut mem, 4, 0xC4, 0x01);
-    let c = write(c, &mut mem, 4, 0xC4, 0x00);
-    let c = write(c, &mut mem, 4, 0xC3, 0x40);
-    let c = write(c, &mut mem, 4, 0xC0, 0x40);
-    let c = event(c, &mut mem, 4, Event::Ack);
-    let c = read(c, &mut mem, 4, 0x00);
-    read(c, &mut mem, 4, 0xC8);
-}
-
-// Read length 0, then write 42h length 0: first action S42, STATUS 0 is 02h.
-fn line_5() {
-    let mut mem = [0u8; 4352];
-    let c = Channel::new();
-    let c = write(c, &mut mem, 5, 0xC4, 0x02);
-    let c = write(c, &mut mem, 5, 0xC4, 0x00);
-    let c = write(c, &mut mem, 5, 0xC4, 0x00);
-    let c = write(c, &mut mem, 5, 0xC3, 0x41);
-    let c = write(c, &mut mem, 5, 0xC3, 0x42);
-    let c = write(c, &mut mem, 5, 0xC0, 0x40);
-    let c = read(c, &mut mem, 5, 0x00);
-    read(c, &mut mem, 5, 0x01);
-}
-
-// Read 41h length 2: S41, C, A, NP. The bytes come one by one and are found in DATA.
-fn line_6() {
-    let mut mem = [0u8; 4352];
-    let c = Channel::new();
-    let c = write(c, &mut mem, 6, 0xC4, 0x01);
-    let c = write(c, &mut mem, 6, 0xC4, 0x02);
-    let c = write(c, &mut mem, 6, 0xC3, 0x41);
-    let c = write(c, &mut mem, 6, 0xC0, 0x40);
-    let c = event(c, &mut mem, 6, Event::Ack);
-    let c = event(c, &mut mem, 6, Event::Byte(0xA1));
-    let c = event(c, &mut mem, 6, Event::Byte(0xB2));
-    let c = read(c, &mut mem, 6, 0x00);
-    let c = read(c, &mut mem, 6, 0xC8);
-    let c = read(c, &mut mem, 6, 0xC5);
-    read(c, &mut mem, 6, 0xC5);
-}
-
-// The same, STO before the ACK: C, NP, BYTECOUNT 1, STATUS 01h, CHSTATUS 80h.
-fn line_7() {
-    let mut mem = [0u8; 4352];
-    let c = Channel::new();
-    let c = write(c, &mut mem, 7, 0xC4, 0x01);
-    let c = write(c, &mut mem, 7, 0xC4, 0x02);
-    let c = write(c, &mut mem, 7, 0xC3, 0x41);
-    let c = write(c, &mut mem, 7, 0xC0, 0x40);
-    let c = write(c, &mut mem, 7, 0xC0, 0x20);
-    let c = read(c, &mut mem, 7, 0xC0);
-    let c = event(c, &mut mem, 7, Event::Ack);
-    let c = event(c, &mut mem, 7, Event::Byte(0xA1));
-    let c = event(c, &mut mem, 7, Event::Stop);
-    let c = read(c, &mut mem, 7, 0xC8);
-    let c = read(c, &mut mem, 7, 0x00);
-    let c = read(c, &mut mem, 7, 0xC1);
-    read(c, &mut mem, 7, 0xC0);
-}
-
-// FRAMECNT 2, CHSTATUS unread: C0h at the end. Between the frames the channel is Waiting, and STA reads 1.
-fn line_8() {
-    let mut mem = [0u8; 4352];
-    let c = Channel::new();
-    let c = write(c, &mut mem, 8, 0xC9, 0x02);
-    let c = write(c, &mut mem, 8, 0xC4, 0x01);
-    let c = write(c, &mut mem, 8, 0xC4, 0x00);
-    let c = write(c, &mut mem, 8, 0xC3, 0x40);
-    let c = write(c, &mut mem, 8, 0xC0, 0x40);
-    let c = event(c, &mut mem, 8, Event::Ack);
-    let c = event(c, &mut mem, 8, Event::Stop);
-    let c = read(c, &mut mem, 8, 0xC0);
-    let c = event(c, &mut mem, 8, Event::Tick);
-    let c = event(c, &mut mem, 8, Event::Ack);
-    let c = event(c, &mut mem, 8, Event::Stop);
-    let c = read(c, &mut mem, 8, 0xC0);
-    let c = read(c, &mut mem, 8, 0xC1);
-    read(c, &mut mem, 8, 0xC1);
-}
-
-// Writes to 40h and 42h, NACK on the first: P, CHSTATUS 20h.
-fn line_9() {
-    let mut mem = [0u8; 4352];
-    let c = Channel::new();
-    let c = write(c, &mut mem, 9, 0xC4, 0x02);
-    let c = write(c, &mut mem, 9, 0xC4, 0x01);
-    let c = write(c, &mut mem, 9, 0xC4, 0x01);
-    let c = write(c, &mut mem, 9, 0xC3, 0x40);
-    let c = write(c, &mut mem, 9, 0xC3, 0x42);
-    let c = write(c, &mut mem, 9, 0xC0, 0x40);
-    let c = event(c, &mut mem, 9, Event::Nack);
-    let c = event(c, &mut mem, 9, Event::Stop);
-    let c = read(c, &mut mem, 9, 0x00);
-    let c = read(c, &mut mem, 9, 0x01);
-    let c = read(c, &mut mem, 9, 0xC0);
-    read(c, &mut mem, 9, 0xC1);
-}
-
-// With INTMSK 20h: R42, and the second write is sent from its own place. WE is set even when masked.
-fn line_9_masked() {
-    let mut mem = [0u8; 4352];
-    let c = Channel::new();
-    let c = write(c, &mut mem, 9, 0xC2, 0x20);
-    let c = write(c, &mut mem, 9, 0xC4, 0x02);
-    let c = write(c, &mut mem, 9, 0xC4, 0x01);
-    let c = write(c, &mut mem, 9, 0xC4, 0x01);
-    let c = write(c, &mut mem, 9, 0xC3, 0x40);
-    let c = write(c, &mut mem, 9, 0xC3, 0x42);
-    let c = write(c, &mut mem, 9, 0xC5, 0x7E);
-    let c = write(c, &mut mem, 9, 0xC5, 0x7F);
-    let c = write(c, &mut mem, 9, 0xC0, 0x40);
-    let c = event(c, &mut mem, 9, Event::Nack);
-    let c = event(c, &mut mem, 9, Event::Ack);
-    let c = event(c, &mut mem, 9, Event::Ack);
-    let c = event(c, &mut mem, 9, Event::Stop);
-    let c = read(c, &mut mem, 9, 0x00);
-    let c = read(c, &mut mem, 9, 0x01);
-    read(c, &mut mem, 9, 0xC1);
+// One row of the sheet.
+fn row(c: Channel, mem: &mut [u8; 4352], line: u8, kind: u8, a: u8, v: u8) -> Channel {
+    if kind == b'X' {
+        *mem = [0u8; 4352];
+        return Channel::new();
+    }
+    step(c, mem, line, op_of(kind, a, v))
 }
 
 fn main() {
-    line_2();
-    line_3();
-    line_4();
-    line_5();
-    line_6();
-    line_7();
-    line_8();
-    line_9();
-    line_9_masked();
+    let mut mem = [0u8; 4352];
+    let mut c = Channel::new();
+    let mut i: usize = 0;
+    while i < ROWS {
+        let at = i * 4;
+        c = row(
+            c,
+            &mut mem,
+            SHEET[at],
+            SHEET[at + 1],
+            SHEET[at + 2],
+            SHEET[at + 3],
+        );
+        i += 1;
+    }
 }

@@ -261,7 +261,11 @@ pub fn edge_beat(p: Phase, te: bool, tp: bool, edge: Edge) -> Beat
     ensures { λ r. ⌜ r ≡ edgeBeat p te tp edge ⌝ }
 {
     if te {
-        if matches(tp, edge) { beat_of(p) } else { Beat::Quiet }
+        if matches(tp, edge) {
+            beat_of(p)
+        } else {
+            Beat::Quiet
+        }
     } else {
         Beat::Quiet
     }

@@ -385,13 +385,13 @@ module _ (c : Channel) (m : List ℕ) (h : In c) where
   pub rewalked : (w : Walk) → w .phase ≡ c .walk .phase → w .ended ≡ c .walk .ended → (p : Phase) → In-phase p → recordedIn p w ≡ true → In (withWalk c w)
   unfolding walkIn
   rewalked w q e p i r =
-      let s = sym (q ∙ i .0) in
-      ( h .0
-      , h .1
-      , with _ _
-        (subst (λ (x : Phase). endedIn x (c .regs .te) (framecntOf c) (w .ended) ≡ true) s (rw e (i .1)))
-        (subst (λ (x : Phase). recordedIn x w ≡ true) s r)
-      , subst (λ (x : Phase). frameIn x (c .slatable) (c .tranconfig) (c .bytecount) ≡ true) s (i .3)
+      let s = sym (q ∙ i .0) in (
+        h .0,
+        h .1,
+        with _ _
+            (subst (λ (x : Phase). endedIn x (c .regs .te) (framecntOf c) (w .ended) ≡ true) s (rw e (i .1)))
+            (subst (λ (x : Phase). recordedIn x w ≡ true) s r),
+        subst (λ (x : Phase). frameIn x (c .slatable) (c .tranconfig) (c .bytecount) ≡ true) s (i .3),
       )
 
   -- late: FE set is a flag; FE recorded is no error end

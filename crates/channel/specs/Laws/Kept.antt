@@ -104,16 +104,16 @@ pointed-le b place at h =
 -- ---- CONTROL
 control-in : (c : Channel) (k : Command) → In c → In (pointed (moded c k) k)
 control-in c k h =
-    let p = points-of _ (h .0) in
-    ( of-points _ (record {
+    let p = points-of _ (h .0) in (
+      of-points _ (record {
         sla = rewound-le _ _ _ (p .sla);
         count = rewound-le _ _ _ (p .count);
         conf = rewound-le _ _ _ (p .conf);
         buf = pointed-le _ _ _ (p .buf);
-      })
-    , h .1
-    , te-kept (c .walk) (c .regs .te) (k .te) (framecntOf c) (h .2)
-    , h .3
+      }),
+      h .1,
+      te-kept (c .walk) (c .regs .te) (k .te) (framecntOf c) (h .2),
+      h .3,
     )
 
 -- what a write to CONTROL asks for may rely on
@@ -225,11 +225,11 @@ write-in c Slatable v e h =
     (of-points _ (record { sla = omega arith; count = p .count; conf = p .conf; buf = p .buf }), h .1, h .2, idle-frame (c .walk .phase) _ _ _ (g .0))
 write-in c Tranconfig v e h =
     let p = points-of _ (h .0) in
-    let g = conf-open (c .walk .phase) (c .ptrs .conf) v e in
-    ( of-points _ (record { sla = p .sla; count = p .count; conf = omega arith; buf = p .buf })
-    , of-registers _ _ _ (entry-0 (c .tranconfig) (c .ptrs .conf) v (registers-count _ _ _ (h .1)) (not-many _ v (g .2))) (registers-sel _ _ _ (h .1)) (registers-mask _ _ _ (h .1))
-    , h .2
-    , open-frame (c .walk .phase) (c .ptrs .conf) _ _ _ (g .0)
+    let g = conf-open (c .walk .phase) (c .ptrs .conf) v e in (
+      of-points _ (record { sla = p .sla; count = p .count; conf = omega arith; buf = p .buf }),
+      of-registers _ _ _ (entry-0 (c .tranconfig) (c .ptrs .conf) v (registers-count _ _ _ (h .1)) (not-many _ v (g .2))) (registers-sel _ _ _ (h .1)) (registers-mask _ _ _ (h .1)),
+      h .2,
+      open-frame (c .walk .phase) (c .ptrs .conf) _ _ _ (g .0),
     )
 write-in c Data v e h =
     let p = points-of _ (h .0) in
@@ -237,11 +237,11 @@ write-in c Data v e h =
     (of-points _ (record { sla = p .sla; count = p .count; conf = p .conf; buf = omega arith }), h .1, h .2, h .3)
 write-in c Transel v e h =
     let p = points-of _ (h .0) in
-    let g = sel-open (c .tranconfig) v e in
-    ( of-points _ (record { sla = p .sla; count = p .count; conf = p .conf; buf = omega arith })
-    , of-registers _ _ _ (registers-count _ _ _ (h .1)) (g .0) (registers-mask _ _ _ (h .1))
-    , h .2
-    , h .3
+    let g = sel-open (c .tranconfig) v e in (
+      of-points _ (record { sla = p .sla; count = p .count; conf = p .conf; buf = omega arith }),
+      of-registers _ _ _ (registers-count _ _ _ (h .1)) (g .0) (registers-mask _ _ _ (h .1)),
+      h .2,
+      h .3,
     )
 write-in c Tranofs v e h =
     let p = points-of _ (h .0) in
