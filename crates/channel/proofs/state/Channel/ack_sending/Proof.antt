@@ -19,4 +19,4 @@ ack-sending-spec =
     (λ c. search needs)
     (λ c. search needs)
     (λ c. λ κs. (rw (c .count-one .ensures) (c .before .before .before .before .before .before .before .before .pre .0 .running), rw (c .count-one .ensures, ← c .before .before .before .before .before .byte .ensures .0) (c .before .next-byte .ensures .1), c .before .before .before .before .before .before .before .before .pre .1))
-    (λ c. cc))
+    (λ c. rw (c .send-on .ensures, c .before .count-one .ensures, c .before .before .next-byte .ensures .0, c .before .before .before .halts .ensures, c .before .before .before .before .byte2 .ensures .0, c .before .before .before .before .before .before .byte .ensures .0)))

@@ -13,4 +13,4 @@ ack-write-spec =
     (λ c. search needs)
     (λ c. search needs)
     (λ c. λ κs. (c .before .before .before .before .before .pre .0, rw (c .before .before .byte .ensures .0) at (c .next-byte .ensures .1), c .before .before .before .before .before .pre .1))
-    (λ c. cc))
+    (λ c. rw (c .send-on .ensures, c .before .next-byte .ensures .0, c .before .before .halts .ensures, c .before .before .before .byte .ensures .0)))

@@ -14,4 +14,4 @@ begin-spec =
     (λ c. search needs)
     (λ c. search needs)
     (λ c. search needs)
-    (λ c. cc))
+    (λ c. rw (c .begin-by .ensures, c .before .begins .ensures, c .before .before .fits2 .ensures)))

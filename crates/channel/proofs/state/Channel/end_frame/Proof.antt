@@ -13,4 +13,4 @@ end-frame-spec =
     (λ c. search needs)
     (λ c. search needs)
     (λ c. search needs)
-    (λ c. cc))
+    (λ c. rw (c .end-by .ensures, c .before .ends .ensures, c .before .before .rest .ensures)))

@@ -12,4 +12,4 @@ finish-spec =
     (tie.spec
     (λ c. search needs)
     (λ c. search walks)
-    (λ c. cc))
+    (λ c. rw (c .onward .ensures, c .before .resolve .ensures)))

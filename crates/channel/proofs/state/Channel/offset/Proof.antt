@@ -12,4 +12,4 @@ offset-spec =
     (λ c. search needs)
     (λ c. search needs)
     (λ c. search needs)
-    (λ c. cc))
+    (λ c. rw (c .place .ensures, c .before .byte .ensures .0, c .before .before .start-of .ensures .0)))

@@ -12,4 +12,4 @@ ofs-refusal-spec =
     (λ c. search needs)
     (λ c. search needs)
     (λ c. search needs)
-    (λ c. cc))
+    (λ c. rw (c .place-refusal .ensures, c .before .byte .ensures .0, c .before .before .start-of .ensures .0)))

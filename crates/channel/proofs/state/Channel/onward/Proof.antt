@@ -17,4 +17,4 @@ onward-spec =
     (λ c. search needs)
     (λ c. search needs)
     (λ c. search needs)
-    (λ c. cc))
+    (λ c. rw (c .move-to .ensures, c .before .pass .ensures, c .before .before .next-move .ensures .0, c .before .before .before .before .reach .ensures .0, c .before .before .before .before .before .before .before .before .halts .ensures)))

@@ -10,4 +10,4 @@ pass-spec =
     tie.close
     (tie.spec
     (λ c. search needs)
-    (λ c. cc))
+    (λ c. rw (c .mark .ensures)))

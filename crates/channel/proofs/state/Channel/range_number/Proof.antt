@@ -9,4 +9,4 @@ range-number-spec =
     (tie.spec
     (λ c. search needs)
     (λ c. search needs)
-    (λ c. cc))
+    (λ c. rw (c .range-refusal .ensures, c .before .in-range .ensures)))

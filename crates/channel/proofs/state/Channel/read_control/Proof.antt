@@ -10,4 +10,4 @@ read-control-spec =
     (λ c. search needs)
     (λ c. search needs)
     (λ c. search needs)
-    (λ c. cc))
+    (λ c. rw (c .reply .ensures, c .before .control-value .ensures, c .before .before .active .ensures)))

@@ -9,4 +9,4 @@ select-spec =
     (tie.spec
     (λ c. search needs)
     (λ c. search needs)
-    (λ c. cc))
+    (λ c. rw (c .place .ensures, c .before .start-of .ensures .0)))

@@ -12,4 +12,4 @@ send-again-spec =
     (λ c. search needs)
     (λ c. search needs)
     (λ c. search needs)
-    (λ c. cc))
+    (λ c. rw (c .send .ensures, c .before .again-by .ensures)))

@@ -10,4 +10,4 @@ set-modes-spec =
     (λ c. search needs)
     (λ c. search needs)
     (λ c. search needs)
-    (λ c. cc))
+    (λ c. rw (c .before .before .kept-if2 .ensures, c .before .before .before .kept-if .ensures, c .before .before .before .before .active .ensures)))

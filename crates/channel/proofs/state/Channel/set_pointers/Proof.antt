@@ -12,4 +12,4 @@ set-pointers-spec =
     (λ c. search needs)
     (λ c. search needs)
     (λ c. search needs)
-    (λ c. cc))
+    (λ c. rw (c .rewind3 .ensures, c .before .point-at .ensures, c .before .before .rewind2 .ensures, c .before .before .before .rewind .ensures, c .before .before .before .before .data-place .ensures)))

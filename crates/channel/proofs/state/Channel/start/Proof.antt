@@ -16,4 +16,4 @@ start-spec =
     (λ c. search needs)
     (λ c. search needs)
     (λ c. search walks)
-    (λ c. cc))
+    (λ c. rw (c .start-by .ensures, c .before .pass .ensures, c .before .before .next-move .ensures .0, c .before .before .before .first-sent .ensures .0)))

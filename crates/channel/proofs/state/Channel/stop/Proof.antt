@@ -11,4 +11,4 @@ stop-spec =
     (tie.spec
     (λ c. search needs)
     (λ c. search needs)
-    (λ c. cc))
+    (λ c. rw (c .act .ensures, c .before .to-phase .ensures)))

@@ -20,4 +20,4 @@ take-spec =
     (λ c. search needs)
     (λ c. search needs)
     (λ c. search walks)
-    (λ c. cc))
+    (λ c. rw (c .receive-on .ensures, c .before .count-one .ensures, c .before .before .next-byte .ensures .0, c .before .before .before .halts .ensures, c .before .before .before .before .byte2 .ensures .0, c .before .before .before .before .before .before .byte .ensures .0)))

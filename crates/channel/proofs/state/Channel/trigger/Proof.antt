@@ -12,4 +12,4 @@ trigger-spec =
     (tie.spec
     (λ c. search needs)
     (λ c. λ κs. range-count (c .before .before .args .self) (c .before .before .pre))
-    (λ c. cc))
+    (λ c. rw (c .beat .ensures, c .before .edge-beat .ensures)))

@@ -8,4 +8,4 @@ write-mask-spec =
     tie.close
     (tie.spec
     (λ c. search needs)
-    (λ c. cc))
+    (λ c. rw (c .before .mask-kept .ensures)))
