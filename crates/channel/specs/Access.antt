@@ -1,6 +1,6 @@
 -- Document 01, 'Numbers that an answer carries' and 'Table accesses': what a read and a write of each register do, CONTROL, and the reset key.
 use Prim.Native.Nat.{ℕ, _+_}
-use mathlib.Core.Bool.{Bool, true, false}
+use mathlib.Core.Bool.{Bool}
 use mathlib.Core.List.{List}
 use lib.Dec.{eqb}
 use lib.ListN.{getD, set}

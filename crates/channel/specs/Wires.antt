@@ -123,6 +123,10 @@ begun c = beganBy c (beginningOf (countOf c) (fitting (c .tranconfig) (countOf c
 
 -- ---- ACK
 
+-- BYTECOUNT plus one
+unfoldable pub countedOne : Channel → ℕ → Channel
+countedOne c n = withCounts c (set (c .bytecount) n (bytesOf c n + 1))
+
 -- byte k of transaction n is sent
 unfoldable pub byteSent : Channel → List ℕ → ℕ → ℕ → Stepped
 byteSent c m n k = acted (phaseSet c (Sending n)) (D (getD m (startOf (c .tranconfig) n + k) 0))
@@ -140,10 +144,6 @@ clocked c n = acted (phaseSet c (Receiving n)) C
 -- ACK in Address: a read always answers C; a write sends its first byte, or with length 0 is done
 unfoldable pub ackAddress : Channel → List ℕ → ℕ → Stepped
 ackAddress c m n = if readsOf (slaveOf c n) then clocked c n else sendOn c m n 0 (nextOf (haltOf c) 0 (lengthOf c n))
-
--- BYTECOUNT plus one
-unfoldable pub countedOne : Channel → ℕ → Channel
-countedOne c n = withCounts c (set (c .bytecount) n (bytesOf c n + 1))
 
 -- ACK in Sending: BYTECOUNT plus one; next byte, or done
 unfoldable pub ackSending : Channel → List ℕ → ℕ → Stepped

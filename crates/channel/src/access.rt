@@ -1,6 +1,6 @@
 // Document 01, 'Numbers that an answer carries' and 'Table accesses': reads and writes of a channel's registers, CONTROL, and the reset key.
 ghost use mathlib.Core.Path.{_≡_};
-ghost use Prim.Native.Nat.{ℕ, _+_, _<_, _≤_};
+ghost use Prim.Native.Nat.{_+_, _<_, _≤_};
 ghost use lib.ListN.{length, getD, set};
 ghost use Rattle.rules.specs.Registers.{Known, maskKept, chstatusValue};
 ghost use Rattle.rules.specs.Tables.{startOf};

@@ -1,6 +1,5 @@
 // The record of a channel, what a step answers, and the changes of one part of the record.
 ghost use mathlib.Core.Path.{_≡_};
-ghost use Prim.Native.Nat.{ℕ};
 ghost use Rattle.channel.specs.State.{fresh, refused, replied, acted, withWalk, withFlags, withKey};
 use rules::Action;
 use rules::Flags;

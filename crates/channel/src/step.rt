@@ -1,6 +1,5 @@
 // One step of a single channel: a write, a read, or an event of the wires.
 ghost use mathlib.Core.Path.{_≡_};
-ghost use Prim.Native.Nat.{ℕ};
 ghost use lib.ListN.{length};
 ghost use Rattle.rules.specs.Registers.{KnownPlace};
 ghost use Rattle.channel.specs.Range.{inRange};

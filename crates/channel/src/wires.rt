@@ -1,7 +1,7 @@
 // Document 01, 'A sequence on the wires': frames, events and trigger edges over a channel's record.
 ghost use mathlib.Core.Bool.{true};
 ghost use mathlib.Core.Path.{_≡_};
-ghost use Prim.Native.Nat.{ℕ, _+_, _<_, _≤_};
+ghost use Prim.Native.Nat.{_+_, _<_, _≤_};
 ghost use lib.ListN.{length, set};
 ghost use Rattle.rules.specs.Tables.{startOf, Running};
 ghost use Rattle.rules.specs.Wires.{Exists, Ready, nextOf};

@@ -1,5 +1,5 @@
 -- Document 01, 'Numbers that an answer carries': the numbers that refuse an access to a register, where the pointers go, and the reset key.
-use Prim.Native.Nat.{ℕ, _+_, _<_}
+use Prim.Native.Nat.{ℕ}
 use mathlib.Core.Bool.{Bool, true, false}
 use mathlib.Core.List.{List}
 use lib.Dec.{eqb, ltb, leb}

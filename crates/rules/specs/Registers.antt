@@ -1,9 +1,7 @@
 -- Document 01, 'The part as the processor sees it': a channel's registers, and the bits of CONTROL, CHSTATUS and INTMSK.
 use Prim.Native.Nat.{ℕ, _+_, _-_, _*_, _/_, _%_, _<_}
 use mathlib.Core.Bool.{Bool, true, false}
-use mathlib.Core.List.{List, [], _∷_}
 use lib.Dec.{eqb, ltb}
-use lib.ListN.{getD}
 use Rattle.laws.specs.Pick.{if_then_else_}
 use Rattle.rules.specs.declared.state.Phase.{Phase}
 use Rattle.rules.specs.declared.state.Phase.the-variants.{Idle, Address, Sending, Receiving, Stopping, Waiting}

@@ -18,7 +18,6 @@ use Rattle.rules.specs.declared.wires.Turn.{Turn}
 use Rattle.rules.specs.declared.wires.Turn.the-variants.{Unawaited, AckAddress, AckSending, NackAddress, NackSending, Receive, Begin as BeginTurn, Late as LateTurn, End, Fault as Faulty}
 use Rattle.rules.specs.declared.wires.Beat.{Beat}
 use Rattle.rules.specs.declared.wires.Beat.the-variants.{Quiet, Begin, Late}
-use Rattle.rules.specs.declared.wires.Fault.{Fault}
 use Rattle.rules.specs.declared.wires.Fault.the-variants.{Dae, Cle, Sse}
 use Rattle.rules.specs.declared.wires.Move.{Move}
 use Rattle.rules.specs.declared.wires.Move.the-variants.{Halt, Send}

@@ -1,6 +1,6 @@
 // Document 01's letters for an action, as the script program prints them.
 ghost use mathlib.Core.Path.{_≡_};
-ghost use Prim.Native.Nat.{ℕ, _<_, _≤_};
+ghost use Prim.Native.Nat.{_<_, _≤_};
 ghost use Rattle.rules.specs.Action.{digitOf, oneLetter, twoLetters, oneAndByte, twoAndByte, textOf};
 use crate::wires::Action;
 

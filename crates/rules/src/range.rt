@@ -1,6 +1,6 @@
 // Document 01, 'Out of range': its clauses over the parts of a channel's record.
 ghost use mathlib.Core.Path.{_≡_};
-ghost use Prim.Native.Nat.{ℕ, _+_, _<_, _≤_};
+ghost use Prim.Native.Nat.{_+_, _<_, _≤_};
 ghost use lib.ListN.{getD};
 ghost use Rattle.rules.specs.Range.{pointersIn, registersIn, countingOf, endedIn, blankOf, recordedIn, walkIn, clearAfter, currentAt, standing, countedIn, frameAt, frameIn};
 use crate::registers::active;

@@ -1,6 +1,6 @@
 // What the tables say: starts, skipped transactions, and the first that is not skipped.
 ghost use mathlib.Core.Path.{_≡_};
-ghost use Prim.Native.Nat.{ℕ, _+_, _-_, _*_, _<_, _≤_};
+ghost use Prim.Native.Nat.{_+_, _*_, _<_, _≤_};
 ghost use Rattle.rules.specs.Tables.{startOf, fitting, readsOf, skippedOf, firstSent, marked};
 
 // A byte as an index: the number, and that it is below 256, which a caller's arithmetic wants.

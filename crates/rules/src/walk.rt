@@ -1,6 +1,5 @@
 // The changes of a walk and of the flags of CHSTATUS that the rules make.
 ghost use mathlib.Core.Path.{_≡_};
-ghost use Prim.Native.Nat.{ℕ};
 ghost use Rattle.rules.specs.Walk.{idle, waiting, toPhase, stoRecorded, seqRecorded, feRecorded, errorNoted, noFlags, sdSet, feSet, weSet, reSet, nackFlags, faultFlags, lateFlags, lateWalk, endFlags, endWalk};
 use crate::state::Flags;
 use crate::state::Phase;

@@ -1,6 +1,6 @@
 // Document 01, 'A sequence on the wires': what an event or a trigger edge comes to, where a walk goes on, how a frame begins and ends, and what a write to CONTROL asks for.
 ghost use mathlib.Core.Path.{_≡_};
-ghost use Prim.Native.Nat.{ℕ, _+_, _<_, _≤_};
+ghost use Prim.Native.Nat.{_+_, _<_, _≤_};
 ghost use lib.ListN.{getD};
 ghost use Rattle.rules.specs.Wires.{ackTurn, nackTurn, byteTurn, tickingOf, beatOf, beatTurn, tickTurn, stopTurn, sdaTurn, sclTurn, turnOf, matchesOf, edgeBeat, haltedOf, reachOf, moveOf, Exists, nextOf, Ready, stopBy, againBy, maskedOf, beginningOf, restOf, endingOf, fldAfter, stopAsked, leaveAsked, startAsked, askedIn, askOf};
 use crate::registers::Command;

@@ -1,13 +1,11 @@
 -- What an access that is not refused may rely on, and an access from its parts.
-use mathlib.Core.Bool.{Bool, true, false}
 use mathlib.Core.List.{List}
-use mathlib.Core.Path.{_≡_, refl, sym, _∙_}
+use mathlib.Core.Path.{_≡_, refl}
 use Prim.Native.Nat.{ℕ, _<_, _≤_}
 use native.Mathlib.Omega.{arith}
 use borrow.Author.Needs.{needs}
 use borrow.Author.Tests.{eq-eqb, ne-eqb}
 use lib.Dec.{eqb}
-use lib.ListN.{length, set}
 use Rattle.laws.specs.Pick.{if_then_else_}
 use Rattle.laws.specs.Cases.{pick-true, pick-false}
 use Rattle.rules.specs.declared.registers.Register.{Register}
@@ -17,8 +15,7 @@ use Rattle.rules.specs.Laws.Access.{not-past, placed, sla-open, conf-open, data
 use Rattle.channel.specs.declared.state.Channel.{Channel}
 use Rattle.channel.specs.declared.state.Stepped.{Stepped}
 use Rattle.channel.specs.State.{refused, guarded, countOf}
-use Rattle.channel.specs.Range.{inRange}
-use Rattle.channel.specs.Access.{readRefusal, readBy, readOf, refusalOf, writtenBy, storedBy, writeOf, writeStore}
+use Rattle.channel.specs.Access.{readRefusal, refusalOf}
 use Rattle.channel.specs.Step.{Accepted}
 use Rattle.channel.specs.Laws.Range.{range-count, range-sel}
 

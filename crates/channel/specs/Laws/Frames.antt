@@ -4,9 +4,9 @@ use mathlib.Core.List.{List, [], _∷_}
 use mathlib.Core.Path.{_≡_, refl, sym, _∙_, subst}
 use Prim.Native.Nat.{ℕ, zero, suc, _+_, _<_, _≤_}
 use native.Mathlib.Omega.{arith}
-use borrow.Author.Tests.{lt-ltb, eq-eqb, ltb-true, eqb-true, eqb-false, not-true}
+use borrow.Author.Tests.{lt-ltb, eq-eqb, ltb-true, eqb-true, eqb-false}
 use lib.Dec.{eqb, ltb}
-use lib.ListN.{getD, set, replicate, getD-replicate}
+use lib.ListN.{getD, set, getD-replicate}
 use Rattle.laws.specs.Pick.{if_then_else_}
 use Rattle.laws.specs.Cases.{pick-holds, past, both, on, with}
 use Rattle.rules.specs.declared.state.Phase.{Phase}
@@ -32,14 +32,14 @@ use Rattle.rules.specs.declared.wires.Beginning.the-variants.{Empty, Unfit, Fit
 use Rattle.rules.specs.declared.wires.Ending.{Ending}
 use Rattle.rules.specs.declared.wires.Ending.the-variants.{Fe, Error, Sd, Wait}
 use Rattle.rules.specs.Tables.{fitting, readsOf, skippedOf, firstSent}
-use Rattle.rules.specs.Range.{pointersIn, registersIn, countingOf, endedIn, blankOf, recordedIn, walkIn, standing, countedIn, frameAt, frameIn}
+use Rattle.rules.specs.Range.{pointersIn, registersIn, countingOf, endedIn, blankOf, recordedIn, walkIn, countedIn, frameAt, frameIn}
 use Rattle.rules.specs.Wires.{beginningOf, reachOf, moveOf, nextOf, restOf, endingOf, ackTurn, nackTurn, byteTurn, beatOf, beatTurn, tickingOf, tickTurn, stopTurn, sdaTurn, sclTurn, turnOf, matchesOf, edgeBeat}
 use Rattle.rules.specs.Walk.{idle, waiting, feRecorded, endWalk, lateFlags, lateWalk}
 use Rattle.rules.specs.Laws.Tables.{first-from}
 use Rattle.rules.specs.Laws.Range.{Stands, stands-of, of-stands, first-stands, stands-counted, registers-count}
 use Rattle.channel.specs.declared.state.Channel.{Channel}
 use Rattle.channel.specs.declared.state.Stepped.{Stepped}
-use Rattle.channel.specs.State.{plain, countOf, framecntOf, withFlags, withWalk, idled}
+use Rattle.channel.specs.State.{countOf, framecntOf, withFlags, withWalk, idled}
 use Rattle.channel.specs.Range.{inRange}
 use Rattle.channel.specs.Wires.{lengthOf, bytesOf, haltOf, resolved, endedBy, frameEnded, passed, stopped, sentTo, movedTo, onward, finished, startedBy, started, cleared, beganBy, begun, byteSent, sendOn, clocked, ackAddress, countedOne, ackSending, receiveOn, received, noted, failed, failedBy, nacked, lateBy, faulted, turned, femskOf, beaten, triggered}
 use Rattle.channel.specs.Laws.Range.{range-pointers, range-registers, range-walk, range-frame}

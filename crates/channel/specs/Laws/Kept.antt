@@ -1,14 +1,14 @@
 -- No step leads out of range, and a step keeps the number of bytes.
-use mathlib.Core.Bool.{Bool, true, false, not}
+use mathlib.Core.Bool.{Bool, true, false}
 use mathlib.Core.List.{List, [], _∷_}
 use mathlib.Core.Path.{_≡_, refl, sym, _∙_}
-use Prim.Native.Nat.{ℕ, zero, suc, _+_, _/_, _%_, _<_, _≤_}
+use Prim.Native.Nat.{ℕ, zero, suc, _+_, _/_, _%_, _≤_}
 use native.Mathlib.Omega.{arith}
-use borrow.Author.Tests.{eqb-true, eq-eqb, ltb-true, ltb-false, leb-false}
+use borrow.Author.Tests.{eqb-true, eq-eqb, ltb-true, ltb-false}
 use lib.Dec.{eqb, ltb}
 use lib.ListN.{length, getD, set, length-set, length-replicate}
 use Rattle.laws.specs.Pick.{if_then_else_}
-use Rattle.laws.specs.Cases.{pick-holds, past, both, with, false-not-true, not-refused, accepted}
+use Rattle.laws.specs.Cases.{pick-holds, past, both, with, false-not-true, accepted}
 use Rattle.rules.specs.declared.state.Phase.{Phase}
 use Rattle.rules.specs.declared.state.Phase.the-variants.{Idle, Address, Sending, Receiving, Stopping, Waiting}
 use Rattle.rules.specs.declared.state.Walk.{Walk}
@@ -29,17 +29,17 @@ use Rattle.rules.specs.Range.{pointersIn, registersIn, countingOf, endedIn, bla
 use Rattle.rules.specs.Wires.{startAsked, stopAsked, leaveAsked, askedIn, askOf}
 use Rattle.rules.specs.Walk.{stoRecorded, seqRecorded}
 use Rattle.rules.specs.Laws.Access.{not-busy, not-past, placed, sla-open, conf-open, data-open, sel-open}
-use Rattle.rules.specs.Laws.Range.{Points, points-of, of-points, of-registers, registers-count, registers-sel, registers-mask}
+use Rattle.rules.specs.Laws.Range.{points-of, of-points, of-registers, registers-count, registers-sel, registers-mask}
 use Rattle.channel.specs.declared.state.Channel.{Channel}
 use Rattle.channel.specs.declared.state.Stepped.{Stepped}
 use Rattle.channel.specs.declared.step.Op.{Op}
 use Rattle.channel.specs.declared.step.Op.the-variants.{Write, Read, Wire}
-use Rattle.channel.specs.State.{fresh, zeros, guarded, countOf, framecntOf, withWalk, withKey}
+use Rattle.channel.specs.State.{fresh, zeros, guarded, framecntOf, withWalk, withKey}
 use Rattle.channel.specs.Range.{inRange}
 use Rattle.channel.specs.Wires.{turnStore}
 use Rattle.channel.specs.Access.{readRefusal, readBy, readOf, moded, pointed, dataPlace, teAfter, asked, controlled, refusalOf, writtenBy, storedBy, writeOf, writeStore, putOf, putStore}
 use Rattle.channel.specs.Step.{writeAt, storeAt, readAt, turnAt, eventAt, eventStore, servedBy, servedStore, rangeNumber, stepOf, bytesAfter}
-use Rattle.channel.specs.Laws.Frames.{In, in-of, of-in, Good, Held, Runs, In-phase, phase-in, rewalked, zero-ends, waited-in, left-in, begun-in, turn-in}
+use Rattle.channel.specs.Laws.Frames.{In, in-of, of-in, Good, Runs, In-phase, phase-in, rewalked, zero-ends, waited-in, left-in, begun-in, turn-in}
 
 -- ---- where no frame is under way, the tables may change
 idle-frame : (p : Phase) (s l b : List ℕ) → activeOf p ≡ false → frameIn p s l b ≡ true

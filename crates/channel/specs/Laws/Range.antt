@@ -1,11 +1,10 @@
 -- What the range says of a record, and what a step in range may rely on.
-use mathlib.Core.Bool.{true, false}
-use mathlib.Core.List.{List}
-use mathlib.Core.Path.{_≡_, refl, sym, _∙_}
-use Prim.Native.Nat.{ℕ, _≤_}
+use mathlib.Core.Bool.{true}
+use mathlib.Core.Path.{_≡_}
+use Prim.Native.Nat.{_≤_}
 use Rattle.laws.specs.Cases.{both}
 use Rattle.rules.specs.Range.{pointersIn, registersIn, walkIn, frameIn}
-use Rattle.rules.specs.Laws.Range.{registers-count, registers-sel, registers-mask}
+use Rattle.rules.specs.Laws.Range.{registers-count, registers-sel}
 use Rattle.channel.specs.declared.state.Channel.{Channel}
 use Rattle.channel.specs.State.{countOf, framecntOf}
 use Rattle.channel.specs.Range.{inRange}

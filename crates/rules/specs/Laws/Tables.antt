@@ -11,7 +11,7 @@ use borrow.Author.Tests.{not-false, not-true}
 use lib.ListN.{getD, set}
 use Rattle.laws.specs.Pick.{if_then_else_}
 use Rattle.laws.specs.Cases.{left-more, left-none, pick-holds}
-use Rattle.rules.specs.Tables.{startOf, skippedOf, sentFrom, firstSent, markFrom, marked, Running}
+use Rattle.rules.specs.Tables.{startOf, skippedOf, sentFrom, firstSent, markFrom, marked}
 
 -- ---- startOf
 pub start-none : (l : List ℕ) → 0 ≡ startOf l 0
