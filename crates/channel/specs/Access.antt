@@ -8,14 +8,14 @@ use Rattle.laws.specs.Pick.{if_then_else_}
 use Rattle.rules.specs.declared.registers.Command.{Command}
 use Rattle.rules.specs.declared.registers.Register.{Register}
 use Rattle.rules.specs.declared.registers.Register.the-variants.{Status, Control, Chstatus, Intmsk, Slatable, Tranconfig, Data, Transel, Tranofs, Bytecount, Setting, Preset}
-use Rattle.rules.specs.declared.wires.Ask.{Ask}
-use Rattle.rules.specs.declared.wires.Ask.the-variants.{Nothing, Overrun, Begin, Wait, Sto, Seq, Leave}
-use Rattle.rules.specs.declared.wires.Ending.the-variants.{Sd}
+use Rattle.sequence.specs.declared.wires.Ask.{Ask}
+use Rattle.sequence.specs.declared.wires.Ask.the-variants.{Nothing, Overrun, Begin, Wait, Sto, Seq, Leave}
+use Rattle.sequence.specs.declared.wires.Ending.the-variants.{Sd}
 use Rattle.rules.specs.Registers.{activeOf, commandOf, controlValue, chstatusValue, maskKept}
 use Rattle.rules.specs.Tables.{startOf}
 use Rattle.rules.specs.Access.{busyRefusal, pastRefusal, placeRefusal, slaRefusal, confRefusal, dataRefusal, selRefusal, keptIf, rewound, pointedAt, overrunOf, keyAfter, resetsOf}
-use Rattle.rules.specs.Wires.{askOf}
-use Rattle.rules.specs.Walk.{waiting, stoRecorded, seqRecorded, noFlags}
+use Rattle.sequence.specs.Wires.{askOf}
+use Rattle.sequence.specs.Walk.{waiting, stoRecorded, seqRecorded, noFlags}
 use Rattle.channel.specs.declared.state.Channel.{Channel}
 use Rattle.channel.specs.declared.state.Stepped.{Stepped}
 use Rattle.channel.specs.State.{fresh, zeros, plain, refused, replied, guarded, withSla, withConf, withSettings, withFlags, withPtrs, withWalk, withKey, slaAt, confAt, dataAt, countAt, maskSet, placeSet, modeSet}

@@ -10,9 +10,9 @@ use Rattle.rules.specs.declared.state.Regs.{Regs}
 use Rattle.rules.specs.declared.state.Flags.{Flags}
 use Rattle.rules.specs.declared.state.Ptrs.{Ptrs}
 use Rattle.rules.specs.declared.state.Walk.{Walk}
-use Rattle.rules.specs.declared.wires.Action.{Action}
-use Rattle.rules.specs.declared.wires.Action.the-variants.{Nothing}
-use Rattle.rules.specs.Walk.{idle, toPhase, noFlags}
+use Rattle.sequence.specs.declared.wires.Action.{Action}
+use Rattle.sequence.specs.declared.wires.Action.the-variants.{Nothing}
+use Rattle.sequence.specs.Walk.{idle, toPhase, noFlags}
 use Rattle.channel.specs.declared.state.Channel.{Channel}
 use Rattle.channel.specs.declared.state.Stepped.{Stepped}
 

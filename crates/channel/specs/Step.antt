@@ -8,10 +8,10 @@ use lib.ListN.{length}
 use Rattle.laws.specs.Pick.{if_then_else_}
 use Rattle.rules.specs.declared.registers.Place.{Place}
 use Rattle.rules.specs.declared.registers.Place.the-variants.{Here, Elsewhere}
-use Rattle.rules.specs.declared.wires.Event.{Event}
+use Rattle.sequence.specs.declared.wires.Event.{Event}
 use Rattle.rules.specs.Registers.{placeOf}
-use Rattle.rules.specs.declared.wires.Turn.{Turn}
-use Rattle.rules.specs.Wires.{turnOf}
+use Rattle.sequence.specs.declared.wires.Turn.{Turn}
+use Rattle.sequence.specs.Wires.{turnOf}
 use Rattle.channel.specs.declared.state.Channel.{Channel}
 use Rattle.channel.specs.declared.state.Stepped.{Stepped}
 use Rattle.channel.specs.declared.step.Op.{Op}

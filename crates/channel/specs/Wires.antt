@@ -5,27 +5,27 @@ use mathlib.Core.List.{List}
 use lib.ListN.{getD, set, replicate}
 use Rattle.laws.specs.Pick.{if_then_else_}
 use Rattle.rules.specs.declared.state.Phase.the-variants.{Address, Sending, Receiving, Stopping}
-use Rattle.rules.specs.declared.wires.Action.{Action}
-use Rattle.rules.specs.declared.wires.Action.the-variants.{S, D, C, A, Np, P}
-use Rattle.rules.specs.declared.wires.Turn.{Turn}
-use Rattle.rules.specs.declared.wires.Turn.the-variants.{Unawaited, AckAddress, AckSending, NackAddress, NackSending, Receive, Begin, Late, End, Fault as Faulty}
-use Rattle.rules.specs.declared.wires.Fault.{Fault}
-use Rattle.rules.specs.declared.wires.Move.{Move}
-use Rattle.rules.specs.declared.wires.Move.the-variants.{Halt, Send}
-use Rattle.rules.specs.declared.wires.Next.{Next}
-use Rattle.rules.specs.declared.wires.Next.the-variants.{Cut, More, Over}
-use Rattle.rules.specs.declared.wires.Tail.{Tail}
-use Rattle.rules.specs.declared.wires.Tail.the-variants.{Plain, Nacked}
-use Rattle.rules.specs.declared.wires.Beginning.{Beginning}
-use Rattle.rules.specs.declared.wires.Beginning.the-variants.{Empty, Unfit, Fit}
-use Rattle.rules.specs.declared.wires.Ending.{Ending}
-use Rattle.rules.specs.declared.wires.Edge.{Edge}
-use Rattle.rules.specs.declared.wires.Beat.{Beat}
-use Rattle.rules.specs.declared.wires.Beat.the-variants.{Quiet, Begin as BeginBeat, Late as LateBeat}
+use Rattle.sequence.specs.declared.wires.Action.{Action}
+use Rattle.sequence.specs.declared.wires.Action.the-variants.{S, D, C, A, Np, P}
+use Rattle.sequence.specs.declared.wires.Turn.{Turn}
+use Rattle.sequence.specs.declared.wires.Turn.the-variants.{Unawaited, AckAddress, AckSending, NackAddress, NackSending, Receive, Begin, Late, End, Fault as Faulty}
+use Rattle.sequence.specs.declared.wires.Fault.{Fault}
+use Rattle.sequence.specs.declared.wires.Move.{Move}
+use Rattle.sequence.specs.declared.wires.Move.the-variants.{Halt, Send}
+use Rattle.sequence.specs.declared.wires.Next.{Next}
+use Rattle.sequence.specs.declared.wires.Next.the-variants.{Cut, More, Over}
+use Rattle.sequence.specs.declared.wires.Tail.{Tail}
+use Rattle.sequence.specs.declared.wires.Tail.the-variants.{Plain, Nacked}
+use Rattle.sequence.specs.declared.wires.Beginning.{Beginning}
+use Rattle.sequence.specs.declared.wires.Beginning.the-variants.{Empty, Unfit, Fit}
+use Rattle.sequence.specs.declared.wires.Ending.{Ending}
+use Rattle.sequence.specs.declared.wires.Edge.{Edge}
+use Rattle.sequence.specs.declared.wires.Beat.{Beat}
+use Rattle.sequence.specs.declared.wires.Beat.the-variants.{Quiet, Begin as BeginBeat, Late as LateBeat}
 use Rattle.rules.specs.Registers.{bitOf}
 use Rattle.rules.specs.Tables.{startOf, fitting, readsOf, firstSent, marked, Running}
-use Rattle.rules.specs.Wires.{beginningOf, haltedOf, reachOf, moveOf, nextOf, stopBy, againBy, maskedOf, restOf, endingOf, edgeBeat}
-use Rattle.rules.specs.Walk.{errorNoted, nackFlags, faultFlags, lateFlags, lateWalk, endFlags, endWalk}
+use Rattle.sequence.specs.Wires.{beginningOf, haltedOf, reachOf, moveOf, nextOf, stopBy, againBy, maskedOf, restOf, endingOf, edgeBeat}
+use Rattle.sequence.specs.Walk.{errorNoted, nackFlags, faultFlags, lateFlags, lateWalk, endFlags, endWalk}
 use Rattle.channel.specs.declared.state.Channel.{Channel}
 use Rattle.channel.specs.declared.state.Stepped.{Stepped}
 use Rattle.channel.specs.State.{plain, refused, acted, countOf, framecntOf, withStatus, withCounts, withFlags, withWalk, phaseSet, idled}

@@ -6,16 +6,16 @@ ghost use Rattle.rules.specs.Registers.{Known, maskKept, chstatusValue};
 ghost use Rattle.rules.specs.Tables.{startOf};
 ghost use Rattle.rules.specs.Access.{placeRefusal};
 ghost use Rattle.channel.specs.State.{zeros, countOf, replied, withSla, withConf, withSettings, withFlags, slaAt, confAt, dataAt, countAt, maskSet, placeSet};
-ghost use Rattle.rules.specs.Walk.{noFlags};
+ghost use Rattle.sequence.specs.Walk.{noFlags};
 ghost use Rattle.channel.specs.Access.{readRefusal, controlOf, readBy, readOf, dataPlace, moded, pointed, asked, controlled, refusalOf, writtenBy, storedBy, writeOf, writeStore, putOf, putStore};
 ghost use Rattle.channel.specs.Step.{Accepted};
 use crate::state::Channel;
 use crate::state::Stepped;
-use rules::Ask;
 use rules::Command;
-use rules::Ending;
 use rules::Ptrs;
 use rules::Register;
+use sequence::Ask;
+use sequence::Ending;
 
 // Zeroes the bytes.
 fn wipe(mem: &mut [u8])
@@ -73,7 +73,7 @@ impl Channel {
         ensures { λ r. ⌜ r ≡ replied (withFlags self noFlags) (chstatusValue (self .flags)) ⌝ }
     {
         let v = rules::chstatus_value(self.flags);
-        self.with_flags(rules::no_flags()).reply(v)
+        self.with_flags(sequence::no_flags()).reply(v)
     }
 
     fn read_sla(self) -> Stepped
@@ -216,9 +216,9 @@ impl Channel {
             Ask::Nothing => self.refuse(0),
             Ask::Overrun => self.refuse(5),
             Ask::Begin => self.begin(),
-            Ask::Wait => self.with_walk(rules::waiting_walk(0)).refuse(0),
-            Ask::Sto => self.with_walk(rules::record_sto(w)).refuse(0),
-            Ask::Seq => self.with_walk(rules::record_seq(w)).refuse(0),
+            Ask::Wait => self.with_walk(sequence::waiting_walk(0)).refuse(0),
+            Ask::Sto => self.with_walk(sequence::record_sto(w)).refuse(0),
+            Ask::Seq => self.with_walk(sequence::record_seq(w)).refuse(0),
             Ask::Leave => self.end_by(Ending::Sd).refuse(0),
         }
     }
@@ -231,7 +231,7 @@ impl Channel {
         let p = w.phase;
         let over = rules::overrun(k.aiptrrst, self.data_place());
         let te = rules::kept_if(rules::active(p), self.regs.te, k.te);
-        let a = rules::ask_of(p, k, te, over);
+        let a = sequence::ask_of(p, k, te, over);
         self.set_modes(k).set_pointers(k).ask(a)
     }
 

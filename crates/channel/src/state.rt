@@ -1,11 +1,11 @@
 // The record of a channel, what a step answers, and the changes of one part of the record.
 ghost use mathlib.Core.Path.{_≡_};
 ghost use Rattle.channel.specs.State.{fresh, refused, replied, acted, withWalk, withFlags, withKey};
-use rules::Action;
 use rules::Flags;
 use rules::Ptrs;
 use rules::Regs;
 use rules::Walk;
+use sequence::Action;
 
 // A channel: its tables, statuses and counts; the settings FRAMECNT, REFRATE, SCLL, SCLH, MODE and TIMEOUT; its other registers, flags, pointers,
 // the walk of its sequence, and whether A5h was written to PRESET.
@@ -53,14 +53,14 @@ impl Channel {
                 tp: false,
                 te: false,
             },
-            flags: rules::no_flags(),
+            flags: sequence::no_flags(),
             ptrs: Ptrs {
                 sla: 0,
                 conf: 0,
                 buf: 0,
                 count: 0,
             },
-            walk: rules::idle_walk(),
+            walk: sequence::idle_walk(),
             key: false,
         }
     }

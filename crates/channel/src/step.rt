@@ -6,9 +6,9 @@ ghost use Rattle.channel.specs.Range.{inRange};
 ghost use Rattle.channel.specs.Step.{writeAt, storeAt, readAt, turnAt, eventAt, eventStore, servedBy, servedStore, rangeNumber, stepOf, bytesAfter, Accepted};
 use crate::state::Channel;
 use crate::state::Stepped;
-use rules::Event;
 use rules::Place;
-use rules::Turn;
+use sequence::Event;
+use sequence::Turn;
 
 // A step of a single channel: a write of a byte at an address, a read at an address, or what its wires did.
 pub enum Op {
@@ -53,7 +53,7 @@ impl Channel {
     {
         let w = self.walk;
         let p = w.phase;
-        rules::turn_of(p, self.regs.te, self.settings[0], e)
+        sequence::turn_of(p, self.regs.te, self.settings[0], e)
     }
 
     fn event_at(self, mem: &mut [u8], number: u8, e: Event) -> Stepped

@@ -4,23 +4,23 @@ ghost use mathlib.Core.Path.{_≡_};
 ghost use Prim.Native.Nat.{_+_, _<_, _≤_};
 ghost use lib.ListN.{length, set};
 ghost use Rattle.rules.specs.Tables.{startOf, Running};
-ghost use Rattle.rules.specs.Wires.{Exists, Ready, nextOf};
+ghost use Rattle.sequence.specs.Wires.{Exists, Ready, nextOf};
 ghost use Rattle.channel.specs.State.{countOf, phaseSet, idled};
 ghost use Rattle.channel.specs.Range.{inRange};
 ghost use Rattle.channel.specs.Wires.{lengthOf, bytesOf, byteAt, resolved, haltOf, endedBy, frameEnded, passed, stopped, sentTo, movedTo, onward, finished, startedBy, started, cleared, beganBy, begun, byteSent, sendOn, clocked, ackAddress, countedOne, ackSending, receiveOn, received, noted, failed, failedBy, nacked, lateBy, faulted, turned, turnStore, beaten, triggered, Counting, Meets};
 use crate::state::Channel;
 use crate::state::Stepped;
-use rules::Action;
-use rules::Beat;
-use rules::Beginning;
-use rules::Edge;
-use rules::Ending;
-use rules::Fault;
-use rules::Move;
-use rules::Next;
 use rules::Phase;
-use rules::Tail;
-use rules::Turn;
+use sequence::Action;
+use sequence::Beat;
+use sequence::Beginning;
+use sequence::Edge;
+use sequence::Ending;
+use sequence::Fault;
+use sequence::Move;
+use sequence::Next;
+use sequence::Tail;
+use sequence::Turn;
 
 impl Channel {
     // ---- small changes
@@ -29,13 +29,13 @@ impl Channel {
         ensures { λ r. ⌜ r ≡ phaseSet self phase ⌝ }
     {
         let w = self.walk;
-        self.with_walk(rules::to_phase(w, phase))
+        self.with_walk(sequence::to_phase(w, phase))
     }
 
     fn to_idle(self) -> Channel
         ensures { λ r. ⌜ r ≡ idled self ⌝ }
     {
-        self.with_walk(rules::idle_walk())
+        self.with_walk(sequence::idle_walk())
     }
 
     fn resolve(self, n: usize, status: u8) -> Channel
@@ -51,7 +51,7 @@ impl Channel {
         ensures { λ r. ⌜ r ≡ haltOf self ⌝ }
     {
         let w = self.walk;
-        rules::halted(w.fe, w.sto)
+        sequence::halted(w.fe, w.sto)
     }
 
     // ---- the frame's end
@@ -59,16 +59,16 @@ impl Channel {
     pub(crate) fn end_by(self, e: Ending) -> Channel
         ensures { λ r. ⌜ r ≡ endedBy self e ⌝ }
     {
-        let f = rules::end_flags(self.flags, self.regs.te, self.settings[0], e);
-        self.with_flags(f).with_walk(rules::end_walk(e))
+        let f = sequence::end_flags(self.flags, self.regs.te, self.settings[0], e);
+        self.with_flags(f).with_walk(sequence::end_walk(e))
     }
 
     fn end_frame(self) -> Channel
         ensures { λ r. ⌜ r ≡ frameEnded self ⌝ }
     {
         let w = self.walk;
-        let rest = rules::rest(self.regs.te, self.settings[0], w.ended);
-        let e = rules::ends(w.fe, w.error, w.sto, w.seq, rest);
+        let rest = sequence::rest(self.regs.te, self.settings[0], w.ended);
+        let e = sequence::ends(w.fe, w.error, w.sto, w.seq, rest);
         self.end_by(e)
     }
 
@@ -102,7 +102,7 @@ impl Channel {
         ensures { λ r. ⌜ r ≡ movedTo self t m ⌝ }
     {
         let Move::Send(n) = m else {
-            return self.stop(rules::stop_by(t));
+            return self.stop(sequence::stop_by(t));
         };
         self.send_again(t, n)
     }
@@ -111,7 +111,7 @@ impl Channel {
         requires { ⌜ n < 64 ⌝ }
         ensures { λ r. ⌜ r ≡ movedTo self t (Move.Send n) ⌝ }
     {
-        let a = rules::again_by(t, self.slatable[n]);
+        let a = sequence::again_by(t, self.slatable[n]);
         self.send(n, a)
     }
 
@@ -120,9 +120,9 @@ impl Channel {
         ensures { λ r. ⌜ r ≡ onward self n t ⌝ }
     {
         let halt = self.halts();
-        let to = rules::reach(halt, n, &self.slatable, &self.tranconfig);
+        let to = sequence::reach(halt, n, &self.slatable, &self.tranconfig);
         let count = self.tranconfig[0];
-        let m = rules::next_move(halt, to, count as usize);
+        let m = sequence::next_move(halt, to, count as usize);
         self.pass(n + 1, to).move_to(t, m)
     }
 
@@ -153,7 +153,7 @@ impl Channel {
         let first = self.tranconfig[0];
         let count = first as usize;
         let to = rules::first_sent(&self.slatable, &self.tranconfig, 0, count);
-        let m = rules::next_move(false, to, count);
+        let m = sequence::next_move(false, to, count);
         self.pass(0, to).start_by(m)
     }
 
@@ -184,7 +184,7 @@ impl Channel {
         let first = self.tranconfig[0];
         let count = first as usize;
         let fit = rules::fits(&self.tranconfig, count);
-        let b = rules::begins(count, fit);
+        let b = sequence::begins(count, fit);
         self.begin_by(b)
     }
 
@@ -221,7 +221,7 @@ impl Channel {
         ensures { λ r. ⌜ r ≡ sendOn self (now (mem .entry)) n 0 (nextOf (haltOf self) 0 (lengthOf self n)) ⌝ }
     {
         let len = rules::byte(self.tranconfig[n + 1]);
-        let x = rules::next_byte(self.halts(), 0, len);
+        let x = sequence::next_byte(self.halts(), 0, len);
         self.send_on(mem, n, 0, x)
     }
 
@@ -253,7 +253,7 @@ impl Channel {
     {
         let len = rules::byte(self.tranconfig[n + 1]);
         let k = rules::byte(self.bytecount[n]) + 1;
-        let x = rules::next_byte(self.halts(), k, len);
+        let x = sequence::next_byte(self.halts(), k, len);
         self.count_one(n).send_on(mem, n, k, x)
     }
 
@@ -276,7 +276,7 @@ impl Channel {
     {
         let len = rules::byte(self.tranconfig[n + 1]);
         let k = rules::byte(self.bytecount[n]) + 1;
-        let x = rules::next_byte(self.halts(), k, len);
+        let x = sequence::next_byte(self.halts(), k, len);
         self.count_one(n).receive_on(n, x)
     }
 
@@ -295,7 +295,7 @@ impl Channel {
     fn note(self, read: bool) -> Channel
         ensures { λ r. ⌜ r ≡ noted self read ⌝ }
     {
-        let f = rules::nack_flags(self.flags, read);
+        let f = sequence::nack_flags(self.flags, read);
         self.with_flags(f)
     }
 
@@ -303,7 +303,7 @@ impl Channel {
         ensures { λ r. ⌜ r ≡ failed self ⌝ }
     {
         let w = self.walk;
-        self.with_walk(rules::note_error(w)).act(Action::P)
+        self.with_walk(sequence::note_error(w)).act(Action::P)
     }
 
     fn fail_by(self, n: usize, masked: bool) -> Stepped
@@ -323,7 +323,7 @@ impl Channel {
     {
         let sla = self.slatable[n];
         let read = rules::reads(sla);
-        let masked = rules::masked(self.regs.intmsk, read);
+        let masked = sequence::masked(self.regs.intmsk, read);
         self.resolve(n, status).note(read).fail_by(n, masked)
     }
 
@@ -334,14 +334,14 @@ impl Channel {
     {
         let w = self.walk;
         let femsk = rules::bit(self.regs.intmsk, 0x01);
-        let f = rules::late_flags(self.flags, femsk);
-        self.with_flags(f).with_walk(rules::late_walk(w, femsk))
+        let f = sequence::late_flags(self.flags, femsk);
+        self.with_flags(f).with_walk(sequence::late_walk(w, femsk))
     }
 
     fn fault(self, f: Fault) -> Channel
         ensures { λ r. ⌜ r ≡ faulted self f ⌝ }
     {
-        let g = rules::fault_flags(self.flags, f);
+        let g = sequence::fault_flags(self.flags, f);
         self.with_flags(g).to_idle()
     }
 
@@ -383,7 +383,7 @@ impl Channel {
     {
         let w = self.walk;
         let p = w.phase;
-        let b = rules::edge_beat(p, self.regs.te, self.regs.tp, edge);
+        let b = sequence::edge_beat(p, self.regs.te, self.regs.tp, edge);
         self.beat(b)
     }
 }

@@ -6,8 +6,8 @@ use channel::Answer;
 use channel::Channel;
 use channel::Op;
 use libc::STDOUT_FILENO;
-use rules::Action;
-use rules::Event;
+use sequence::Action;
+use sequence::Event;
 
 // ---- what is printed
 
@@ -16,7 +16,7 @@ fn say(text: &[u8]) {
 }
 
 fn say_hex(b: u8) {
-    let digits = [rules::digit(b / 16), rules::digit(b % 16)];
+    let digits = [sequence::digit(b / 16), sequence::digit(b % 16)];
     say(&digits);
 }
 
@@ -76,7 +76,7 @@ fn say_first(text: [u8; 4], n: usize)
 }
 
 fn say_action(a: Action) {
-    let t = rules::spell(a);
+    let t = sequence::spell(a);
     let n = t.len;
     let text = t.bytes;
     say_first(text, n);

@@ -2,4 +2,3 @@
 pub mod Access
 pub mod Tables
 pub mod Range
-pub mod Wires

@@ -13,13 +13,13 @@ use Rattle.rules.specs.declared.registers.Place.{Place}
 use Rattle.rules.specs.declared.registers.Place.the-variants.{Here}
 use Rattle.rules.specs.declared.state.Phase.{Phase}
 use Rattle.rules.specs.declared.state.Phase.the-variants.{Idle, Address, Sending, Receiving, Stopping, Waiting}
-use Rattle.rules.specs.declared.wires.Event.{Event}
-use Rattle.rules.specs.declared.wires.Event.the-variants.{Ack, Nack, Byte, Tick, Stop, Sda, Scl, Ill}
-use Rattle.rules.specs.declared.wires.Turn.{Turn}
+use Rattle.sequence.specs.declared.wires.Event.{Event}
+use Rattle.sequence.specs.declared.wires.Event.the-variants.{Ack, Nack, Byte, Tick, Stop, Sda, Scl, Ill}
+use Rattle.sequence.specs.declared.wires.Turn.{Turn}
 use Rattle.rules.specs.Registers.{Known, KnownPlace}
 use Rattle.rules.specs.Tables.{fitting, readsOf, Running}
 use Rattle.rules.specs.Range.{standing, countedIn, frameAt, frameIn}
-use Rattle.rules.specs.Wires.{ackTurn, nackTurn, byteTurn, beatOf, beatTurn, tickingOf, tickTurn, stopTurn, sdaTurn, sclTurn, turnOf}
+use Rattle.sequence.specs.Wires.{ackTurn, nackTurn, byteTurn, beatOf, beatTurn, tickingOf, tickTurn, stopTurn, sdaTurn, sclTurn, turnOf}
 use Rattle.channel.specs.declared.state.Channel.{Channel}
 use Rattle.channel.specs.Range.{inRange}
 use Rattle.channel.specs.State.{countOf, framecntOf}

@@ -6,14 +6,14 @@ use Prim.Native.Nat.{ℕ, _+_, _<_, _≤_}
 use native.Mathlib.Omega.{arith}
 use borrow.Author.Needs.{needs}
 use lib.ListN.{getD}
-use Rattle.rules.specs.declared.wires.Move.{Move}
-use Rattle.rules.specs.declared.wires.Move.the-variants.{Send}
-use Rattle.rules.specs.declared.wires.Turn.{Turn}
-use Rattle.rules.specs.declared.wires.Turn.the-variants.{AckAddress, AckSending, NackAddress, NackSending, Receive, Begin}
-use Rattle.rules.specs.declared.wires.Next.{Next}
-use Rattle.rules.specs.declared.wires.Next.the-variants.{More}
+use Rattle.sequence.specs.declared.wires.Move.{Move}
+use Rattle.sequence.specs.declared.wires.Move.the-variants.{Send}
+use Rattle.sequence.specs.declared.wires.Turn.{Turn}
+use Rattle.sequence.specs.declared.wires.Turn.the-variants.{AckAddress, AckSending, NackAddress, NackSending, Receive, Begin}
+use Rattle.sequence.specs.declared.wires.Next.{Next}
+use Rattle.sequence.specs.declared.wires.Next.the-variants.{More}
 use Rattle.rules.specs.Tables.{startOf, Running}
-use Rattle.rules.specs.Wires.{Exists, Ready}
+use Rattle.sequence.specs.Wires.{Exists, Ready}
 use Rattle.rules.specs.Laws.Tables.{start-next}
 use Rattle.channel.specs.declared.state.Channel.{Channel}
 use Rattle.channel.specs.State.{countOf}

@@ -12,29 +12,29 @@ use Rattle.laws.specs.Cases.{pick-holds, past, both, on, with}
 use Rattle.rules.specs.declared.state.Phase.{Phase}
 use Rattle.rules.specs.declared.state.Phase.the-variants.{Idle, Address, Sending, Receiving, Stopping, Waiting}
 use Rattle.rules.specs.declared.state.Walk.{Walk}
-use Rattle.rules.specs.declared.wires.Action.{Action}
-use Rattle.rules.specs.declared.wires.Event.{Event}
-use Rattle.rules.specs.declared.wires.Event.the-variants.{Ack, Nack, Byte, Tick, Stop, Sda, Scl, Ill}
-use Rattle.rules.specs.declared.wires.Edge.{Edge}
-use Rattle.rules.specs.declared.wires.Fault.{Fault}
-use Rattle.rules.specs.declared.wires.Fault.the-variants.{Dae, Cle, Sse}
-use Rattle.rules.specs.declared.wires.Beat.{Beat}
-use Rattle.rules.specs.declared.wires.Beat.the-variants.{Quiet, Begin, Late}
-use Rattle.rules.specs.declared.wires.Turn.{Turn}
-use Rattle.rules.specs.declared.wires.Turn.the-variants.{Unawaited}
-use Rattle.rules.specs.declared.wires.Move.{Move}
-use Rattle.rules.specs.declared.wires.Move.the-variants.{Halt, Send}
-use Rattle.rules.specs.declared.wires.Next.{Next}
-use Rattle.rules.specs.declared.wires.Next.the-variants.{Cut, More, Over}
-use Rattle.rules.specs.declared.wires.Tail.{Tail}
-use Rattle.rules.specs.declared.wires.Beginning.{Beginning}
-use Rattle.rules.specs.declared.wires.Beginning.the-variants.{Empty, Unfit, Fit}
-use Rattle.rules.specs.declared.wires.Ending.{Ending}
-use Rattle.rules.specs.declared.wires.Ending.the-variants.{Fe, Error, Sd, Wait}
+use Rattle.sequence.specs.declared.wires.Action.{Action}
+use Rattle.sequence.specs.declared.wires.Event.{Event}
+use Rattle.sequence.specs.declared.wires.Event.the-variants.{Ack, Nack, Byte, Tick, Stop, Sda, Scl, Ill}
+use Rattle.sequence.specs.declared.wires.Edge.{Edge}
+use Rattle.sequence.specs.declared.wires.Fault.{Fault}
+use Rattle.sequence.specs.declared.wires.Fault.the-variants.{Dae, Cle, Sse}
+use Rattle.sequence.specs.declared.wires.Beat.{Beat}
+use Rattle.sequence.specs.declared.wires.Beat.the-variants.{Quiet, Begin, Late}
+use Rattle.sequence.specs.declared.wires.Turn.{Turn}
+use Rattle.sequence.specs.declared.wires.Turn.the-variants.{Unawaited}
+use Rattle.sequence.specs.declared.wires.Move.{Move}
+use Rattle.sequence.specs.declared.wires.Move.the-variants.{Halt, Send}
+use Rattle.sequence.specs.declared.wires.Next.{Next}
+use Rattle.sequence.specs.declared.wires.Next.the-variants.{Cut, More, Over}
+use Rattle.sequence.specs.declared.wires.Tail.{Tail}
+use Rattle.sequence.specs.declared.wires.Beginning.{Beginning}
+use Rattle.sequence.specs.declared.wires.Beginning.the-variants.{Empty, Unfit, Fit}
+use Rattle.sequence.specs.declared.wires.Ending.{Ending}
+use Rattle.sequence.specs.declared.wires.Ending.the-variants.{Fe, Error, Sd, Wait}
 use Rattle.rules.specs.Tables.{fitting, readsOf, skippedOf, firstSent}
 use Rattle.rules.specs.Range.{pointersIn, registersIn, countingOf, endedIn, blankOf, recordedIn, walkIn, countedIn, frameAt, frameIn}
-use Rattle.rules.specs.Wires.{beginningOf, reachOf, moveOf, nextOf, restOf, endingOf, ackTurn, nackTurn, byteTurn, beatOf, beatTurn, tickingOf, tickTurn, stopTurn, sdaTurn, sclTurn, turnOf, matchesOf, edgeBeat}
-use Rattle.rules.specs.Walk.{idle, waiting, feRecorded, endWalk, lateFlags, lateWalk}
+use Rattle.sequence.specs.Wires.{beginningOf, reachOf, moveOf, nextOf, restOf, endingOf, ackTurn, nackTurn, byteTurn, beatOf, beatTurn, tickingOf, tickTurn, stopTurn, sdaTurn, sclTurn, turnOf, matchesOf, edgeBeat}
+use Rattle.sequence.specs.Walk.{idle, waiting, feRecorded, endWalk, lateFlags, lateWalk}
 use Rattle.rules.specs.Laws.Tables.{first-from}
 use Rattle.rules.specs.Laws.Range.{Stands, stands-of, of-stands, first-stands, stands-counted, registers-count}
 use Rattle.channel.specs.declared.state.Channel.{Channel}

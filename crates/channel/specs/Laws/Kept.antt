@@ -17,17 +17,17 @@ use Rattle.rules.specs.declared.registers.Register.{Register}
 use Rattle.rules.specs.declared.registers.Register.the-variants.{Status, Control, Chstatus, Intmsk, Slatable, Tranconfig, Data, Transel, Tranofs, Bytecount, Setting, Preset}
 use Rattle.rules.specs.declared.registers.Place.{Place}
 use Rattle.rules.specs.declared.registers.Place.the-variants.{Here, Elsewhere}
-use Rattle.rules.specs.declared.wires.Event.{Event}
-use Rattle.rules.specs.declared.wires.Turn.{Turn}
-use Rattle.rules.specs.declared.wires.Turn.the-variants.{Unawaited, AckAddress, AckSending, NackAddress, NackSending, Receive, Begin as BeginTurn, Late, End, Fault}
-use Rattle.rules.specs.declared.wires.Ask.{Ask}
-use Rattle.rules.specs.declared.wires.Ask.the-variants.{Nothing, Overrun, Begin, Wait, Sto, Seq, Leave}
+use Rattle.sequence.specs.declared.wires.Event.{Event}
+use Rattle.sequence.specs.declared.wires.Turn.{Turn}
+use Rattle.sequence.specs.declared.wires.Turn.the-variants.{Unawaited, AckAddress, AckSending, NackAddress, NackSending, Receive, Begin as BeginTurn, Late, End, Fault}
+use Rattle.sequence.specs.declared.wires.Ask.{Ask}
+use Rattle.sequence.specs.declared.wires.Ask.the-variants.{Nothing, Overrun, Begin, Wait, Sto, Seq, Leave}
 use Rattle.rules.specs.Registers.{activeOf, commandOf, maskKept, placeOf}
 use Rattle.rules.specs.Tables.{startOf}
 use Rattle.rules.specs.Access.{lockedOf, tooMany, keptIf, rewound, atMost, pointedAt, overrunOf, keyAfter, resetsOf}
 use Rattle.rules.specs.Range.{pointersIn, registersIn, countingOf, endedIn, blankOf, recordedIn, walkIn, frameIn}
-use Rattle.rules.specs.Wires.{startAsked, stopAsked, leaveAsked, askedIn, askOf}
-use Rattle.rules.specs.Walk.{stoRecorded, seqRecorded}
+use Rattle.sequence.specs.Wires.{startAsked, stopAsked, leaveAsked, askedIn, askOf}
+use Rattle.sequence.specs.Walk.{stoRecorded, seqRecorded}
 use Rattle.rules.specs.Laws.Access.{not-busy, not-past, placed, sla-open, conf-open, data-open, sel-open}
 use Rattle.rules.specs.Laws.Range.{points-of, of-points, of-registers, registers-count, registers-sel, registers-mask}
 use Rattle.channel.specs.declared.state.Channel.{Channel}

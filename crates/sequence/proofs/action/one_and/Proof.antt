@@ -1,0 +1,12 @@
+-- `sequence::action::one_and` meets its contract.
+use borrow.Author.Needs.{needs}
+use Rattle.sequence.proofs.action.one_and.Statement.{statement}
+use Rattle.sequence.proofs.action.one_and.Tie as tie
+
+pub one-and-spec : {M : Type 1} → statement M
+one-and-spec =
+    tie.close
+    (tie.spec
+    (λ c. search needs)
+    (λ c. search needs)
+    (λ c. (cc, search needs)))

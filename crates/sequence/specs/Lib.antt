@@ -1,0 +1,4 @@
+pub mod Wires
+pub mod Walk
+pub mod Action
+pub mod Laws
