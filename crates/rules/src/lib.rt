@@ -32,6 +32,7 @@ pub use registers::command_of;
 pub use registers::control_value;
 pub use registers::mask_kept;
 pub use registers::place_of;
+pub use registers::weight;
 pub use state::Flags;
 pub use state::Phase;
 pub use state::Ptrs;

@@ -141,7 +141,7 @@ pub fn command_of(v: u8) -> Command
     }
 }
 
-fn weight(b: bool, w: u8) -> u8
+pub fn weight(b: bool, w: u8) -> u8
     ensures { λ r. ⌜ (r ≡ weigh b w) × (r ≤ w) ⌝ }
 {
     if b { w } else { 0 }

@@ -38,9 +38,6 @@ byte-in l n k len x r y q e =
     let h : k < getD l (n + 1) 0 = rw q at y in
     let g = start-next l n (getD l 0 0) (r .below) in omega arith
 
-pub ready-kept : (c d x : Channel) (s : Next) (n k len : ℕ) → Ready s k len → len ≡ lengthOf c n → d ≡ x → x .tranconfig ≡ c .tranconfig → Ready s k (lengthOf d n)
-ready-kept c d x s n k len y q e t = rw (e, t) (rw q at y)
-
 pub current-in : (c : Channel) (n s k len : ℕ) → Counting c n → s ≡ startOf (c .tranconfig) n → k ≡ getD (c .bytecount) n 0 → len ≡ 4352 → s + k < len
 current-in c n s k len r p q e = let g = start-next (c .tranconfig) n (getD (c .tranconfig) 0 0) (r .running .below) in omega arith
 
@@ -48,7 +45,7 @@ current-in c n s k len r p q e = let g = start-next (c .tranconfig) n (getD (c .
 pub few-kept : (c d x : Channel) → countOf c ≤ 64 → d ≡ x → x .tranconfig ≡ c .tranconfig → countOf d ≤ 64
 few-kept c d x f e t = rw (e, t) f
 
-pub ruleset walks = (few-kept, running-kept, running-noted, byte-in, ready-kept, current-in, needs)
+pub ruleset walks = (few-kept, running-kept, running-noted, byte-in, current-in, needs)
 
 -- ---- what each turn may rely on
 module _ (c : Channel) (t : Turn) (h : Meets c t) where

@@ -1,0 +1,20 @@
+-- `part::state::Part::interrupt` meets its contract.
+use Rattle.laws.specs.Cases.{cases}
+use Rattle.part.specs.Registers.{interruptOf}
+use borrow.Author.Needs.{needs}
+use Rattle.part.proofs.state.Part.interrupt.Statement.{statement}
+use Rattle.part.proofs.state.Part.interrupt.Tie as tie
+
+pub interrupt-spec : {M : Type 1} → statement M
+unfolding interruptOf
+interrupt-spec =
+    tie.close
+    (tie.spec
+    (λ c. λ κs. search needs)
+    (λ c. search cases depth 12)
+    (λ c. λ κs. search needs)
+    (λ c. search cases depth 12)
+    (λ c. λ κs. search needs)
+    (λ c. search cases depth 12)
+    (λ c. λ κs. search needs)
+    (λ c. search cases depth 12))

@@ -1,0 +1,5 @@
+pub mod State
+pub mod Map
+pub mod Registers
+pub mod Step
+pub mod Laws

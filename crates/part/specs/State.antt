@@ -1,0 +1,81 @@
+-- Words for the record of the part: the reset state, what a step answers, the record with a part replaced, a channel's record and its window.
+use Prim.Native.Nat.{ℕ, _*_}
+use mathlib.Core.Bool.{Bool, true, false}
+use mathlib.Core.List.{List, [], _∷_}
+use lib.ListN.{getD, set, replicate}
+use Rattle.laws.specs.Windows.{cut, put}
+use Rattle.rules.specs.declared.state.Phase.the-variants.{Idle}
+use Rattle.sequence.specs.declared.wires.Action.{Action}
+use Rattle.sequence.specs.declared.wires.Action.the-variants.{Nothing}
+use Rattle.channel.specs.declared.state.Channel.{Channel}
+use Rattle.channel.specs.State.{fresh}
+use Rattle.part.specs.declared.state.Act.{Act}
+use Rattle.part.specs.declared.state.Part.{Part}
+use Rattle.part.specs.declared.state.PartStepped.{PartStepped}
+
+-- ---- the reset state
+
+-- 13,056 zeros
+unfoldable pub wiped : List ℕ
+wiped = replicate 13056 0
+
+-- three channels after a reset; CTRLSTATUS and CTRLINTMSK 00h; no key
+abbrev pub freshPart : Part
+freshPart = record { channels = fresh ∷ fresh ∷ fresh ∷ []; be = false; mask = 0; key = false }
+
+-- ---- what a step answers: number, value, an action for each channel
+
+abbrev pub told : Part → ℕ → ℕ → List Act → PartStepped
+told p n v acts = record { part = p; answer = record { number = n; value = v; actions = acts } }
+
+abbrev pub quiet : List Act
+quiet = record { action = Nothing } ∷ record { action = Nothing } ∷ record { action = Nothing } ∷ []
+
+-- an action of channel c alone
+abbrev pub onlyAt : ℕ → Action → List Act
+onlyAt c a = set quiet c (record { action = a })
+
+-- only a read answered 0 carries a value, else it is 00h; every answer but 0 has no action
+abbrev pub refusedPart : Part → ℕ → PartStepped
+refusedPart p n = told p n 0 quiet
+
+-- a read, with its value
+abbrev pub repliedPart : Part → ℕ → PartStepped
+repliedPart p v = told p 0 v quiet
+
+-- ---- the record with one part replaced
+abbrev pub withBe : Part → Bool → Part
+withBe p b = record { channels = p .channels; be = b; mask = p .mask; key = p .key }
+
+abbrev pub withMask : Part → ℕ → Part
+withMask p n = record { channels = p .channels; be = p .be; mask = n; key = p .key }
+
+abbrev pub withKey : Part → Bool → Part
+withKey p k = record { channels = p .channels; be = p .be; mask = p .mask; key = k }
+
+-- ---- channel c: its record, and its 4,352 bytes, from 4,352 times its number
+
+-- what stands past the third channel, where nothing reads
+abbrev pub blank : Channel
+blank = record {
+  slatable = [];
+  tranconfig = [];
+  status = [];
+  bytecount = [];
+  settings = [];
+  regs = record { intmsk = 0; transel = 0; tranofs = 0; tp = false; te = false };
+  flags = record { sd = false; fld = false; we = false; re = false; dae = false; cle = false; sse = false; fe = false };
+  ptrs = record { sla = 0; conf = 0; buf = 0; count = 0 };
+  walk = record { phase = Idle; ended = 0; sto = false; seq = false; fe = false; error = false };
+  key = false;
+}
+
+abbrev pub chan : Part → ℕ → Channel
+chan p c = getD (p .channels) c blank
+
+unfoldable pub window : ℕ → List ℕ → List ℕ
+window c m = cut (4352 * c) 4352 m
+
+-- the memory with l in the place of channel c's bytes, and every other byte as it was
+unfoldable pub putWindow : ℕ → List ℕ → List ℕ → List ℕ
+putWindow c l m = put (4352 * c) 4352 l m

@@ -1,0 +1,126 @@
+-- One step of the part: no. 9, or a step of one channel, of the whole part, or of none.
+use Prim.Native.Nat.{ℕ, _/_, _%_, _<_}
+use mathlib.Core.Bool.{Bool, true, false}
+use mathlib.Core.List.{List, [], _∷_, map}
+use mathlib.Core.Path.{_≡_}
+use lib.Dec.{eqb}
+use lib.ListN.{length, set}
+use Rattle.laws.specs.Pick.{if_then_else_}
+use Rattle.sequence.specs.declared.wires.Edge.{Edge}
+use Rattle.channel.specs.declared.state.Channel.{Channel}
+use Rattle.channel.specs.declared.state.Stepped.{Stepped}
+use Rattle.channel.specs.declared.step.Op.{Op}
+use Rattle.channel.specs.declared.step.Op.the-variants.{Write, Read, Wire}
+use Rattle.channel.specs.Range.{inRange}
+use Rattle.channel.specs.Step.{servedBy, servedStore}
+use Rattle.channel.specs.Wires.{triggered}
+use Rattle.part.specs.declared.state.Act.{Act}
+use Rattle.part.specs.declared.state.Part.{Part}
+use Rattle.part.specs.declared.state.PartStepped.{PartStepped}
+use Rattle.part.specs.declared.map.Step.{Step}
+use Rattle.part.specs.declared.map.Target.{Target}
+use Rattle.part.specs.declared.map.Target.the-variants.{One, CtrlWrite, CtrlRead, AllTrigger, AllReset, Beyond}
+use Rattle.part.specs.State.{freshPart, wiped, told, refusedPart, onlyAt, chan, window, putWindow}
+use Rattle.part.specs.Map.{targetOf}
+use Rattle.part.specs.Registers.{ctrlRead, ctrlPut, ctrlStore}
+
+-- ---- a step of channel c
+
+-- no. 5 sets BE
+unfoldable pub beAfter : Bool → ℕ → Bool
+beAfter be number = if eqb number 5 then true else be
+
+-- any write elsewhere forgets CTRLPRESET's A5h; a read or an event does not
+abbrev pub keyKept : Op → Bool → Bool
+keyKept (Write a v) key = false
+keyKept (Read a) key = key
+keyKept (Wire e) key = key
+
+-- the part after channel c answered r
+abbrev pub oneAfter : Part → ℕ → Op → Stepped → Part
+oneAfter p c op r = record {
+  channels = set (p .channels) c (r .channel);
+  be = beAfter (p .be) (r .answer .number);
+  mask = p .mask;
+  key = keyKept op (p .key);
+}
+
+abbrev pub oneTold : Part → ℕ → Op → Stepped → PartStepped
+oneTold p c op r = told (oneAfter p c op r) (r .answer .number) (r .answer .value) (onlyAt c (r .answer .action))
+
+-- each channel works on its own 4,352 bytes
+unfoldable pub oneStep : Part → List ℕ → ℕ → Op → PartStepped
+oneStep p m c op = oneTold p c op (servedBy (chan p c) (window c m) c op)
+
+unfoldable pub oneBytes : Part → List ℕ → ℕ → Op → List ℕ
+oneBytes p m c op = putWindow c (servedStore (chan p c) (window c m) c op) m
+
+-- ---- a trigger edge is one step over the whole part: its answer holds one action for each channel; a frame that doesn't fit shows as BE
+
+abbrev pub edgeChannel : Edge → Channel → Channel
+edgeChannel edge c = triggered c edge .channel
+
+abbrev pub edgeAct : Edge → Channel → Act
+edgeAct edge c = record { action = triggered c edge .answer .action }
+
+abbrev pub edgeBe : Edge → Bool → List Channel → Bool
+edgeBe edge be [] = be
+edgeBe edge be (c ∷ l) = edgeBe edge (beAfter be (triggered c edge .answer .number)) l
+
+unfoldable pub triggerStep : Part → Edge → PartStepped
+triggerStep p edge =
+    told
+    (record {
+      channels = map (edgeChannel edge) (p .channels);
+      be = edgeBe edge (p .be) (p .channels);
+      mask = p .mask;
+      key = p .key;
+    })
+    0 0 (map (edgeAct edge) (p .channels))
+
+-- ---- whom the step concerns; no. 1 for a channel above 2; the hardware reset does what CTRLPRESET does
+unfoldable pub partServed : Part → List ℕ → Target → PartStepped
+partServed p m (One c op) = oneStep p m c op
+partServed p m (CtrlWrite reg v) = ctrlPut p reg v
+partServed p m (CtrlRead reg) = ctrlRead p reg
+partServed p m (AllTrigger edge) = triggerStep p edge
+partServed p m AllReset = refusedPart freshPart 0
+partServed p m Beyond = refusedPart p 1
+
+unfoldable pub partStored : Part → List ℕ → Target → List ℕ
+partStored p m (One c op) = oneBytes p m c op
+partStored p m (CtrlWrite reg v) = ctrlStore p m reg v
+partStored p m (CtrlRead reg) = m
+partStored p m (AllTrigger edge) = m
+partStored p m AllReset = wiped
+partStored p m Beyond = m
+
+-- ---- no. 9: lent memory not 13,056 bytes, or a state out of range
+
+-- every channel in range
+unfoldable pub channelsIn : List Channel → Bool
+channelsIn [] = true
+channelsIn (c ∷ l) = if inRange c then channelsIn l else false
+
+-- a bit of CTRLINTMSK that is kept 0 set
+abbrev pub maskIn : ℕ → Bool
+maskIn mask = eqb (mask / 8 % 16) 0
+
+unfoldable pub partIn : Part → Bool
+partIn p = if channelsIn (p .channels) then maskIn (p .mask) else false
+
+unfoldable pub accepts : Part → ℕ → Bool
+accepts p len = if eqb len 13056 then partIn p else false
+
+-- the new part with its answer
+unfoldable pub partStep : Part → List ℕ → Step → PartStepped
+partStep p m s = if accepts p (length m) then partServed p m (targetOf s) else refusedPart p 9
+
+-- the 13,056 bytes
+unfoldable pub partBytes : Part → List ℕ → Step → List ℕ
+partBytes p m s = if accepts p (length m) then partStored p m (targetOf s) else m
+
+-- what a step that is not refused by no. 9 may rely on
+pub record Whole (p : Part) (m : List ℕ) : Type 0 where
+  pub ranged : partIn p ≡ true
+  pub whole : length m ≡ 13056

@@ -1,0 +1,215 @@
+// Document 01, 'The part as the processor sees it': CTRLSTATUS, CTRLINTMSK, the interrupt, and the reads and writes at F0h to FFh.
+ghost use mathlib.Core.Path.{_≡_};
+ghost use Prim.Native.Nat.{_+_, _*_, _/_, _%_, _<_};
+ghost use lib.ListN.{length};
+ghost use Rattle.part.specs.State.{freshPart, wiped, refusedPart};
+ghost use Rattle.part.specs.Registers.{unmaskedOf, pendingOf, pendingAt, activeAt, interruptOf, ctrlstatusOf, ctrlKept, ctrlRead, ctrlWritten, ctrlpresetOf, ctrlKeyAfter, ctrlResets, ctrlPut, ctrlStore};
+use crate::map::Ctrl;
+use crate::state::Part;
+use crate::state::PartStepped;
+use rules::Flags;
+use rules::bit;
+use rules::weight;
+
+// A cause that is set, and whose mask bit, of weight w, is 0.
+fn unmasked(cause: bool, mask: u8, w: u8) -> bool
+    requires { ⌜ 0 < w ⌝ }
+    ensures { λ r. ⌜ r ≡ unmaskedOf cause mask w ⌝ }
+{
+    if cause { !bit(mask, w) } else { false }
+}
+
+// Whether a channel with these flags and this INTMSK is pending.
+fn pending(f: Flags, mask: u8) -> bool
+    ensures { λ r. ⌜ r ≡ pendingOf f mask ⌝ }
+{
+    if unmasked(f.sd, mask, 0x80) {
+        return true;
+    }
+    if unmasked(f.fld, mask, 0x40) {
+        return true;
+    }
+    if unmasked(f.we, mask, 0x20) {
+        return true;
+    }
+    if unmasked(f.re, mask, 0x10) {
+        return true;
+    }
+    if unmasked(f.dae, mask, 0x08) {
+        return true;
+    }
+    if unmasked(f.cle, mask, 0x04) {
+        return true;
+    }
+    if unmasked(f.sse, mask, 0x02) {
+        return true;
+    }
+    unmasked(f.fe, mask, 0x01)
+}
+
+fn is_ctrlpreset(reg: Ctrl) -> bool
+    ensures { λ r. ⌜ r ≡ ctrlpresetOf reg ⌝ }
+{
+    match reg {
+        Ctrl::Ctrlstatus => false,
+        Ctrl::Ctrlintmsk => false,
+        Ctrl::Reserved => false,
+        Ctrl::DeviceId => false,
+        Ctrl::Ctrlpreset => true,
+        Ctrl::Nothing => false,
+        Ctrl::Ctrlrdy => false,
+    }
+}
+
+fn ctrl_key_after(reg: Ctrl, v: u8) -> bool
+    ensures { λ r. ⌜ r ≡ ctrlKeyAfter reg v ⌝ }
+{
+    if is_ctrlpreset(reg) { v == 0xA5 } else { false }
+}
+
+fn ctrl_resets(reg: Ctrl, v: u8, key: bool) -> bool
+    ensures { λ r. ⌜ r ≡ ctrlResets reg v key ⌝ }
+{
+    if is_ctrlpreset(reg) {
+        if key { v == 0x5A } else { false }
+    } else {
+        false
+    }
+}
+
+fn ctrl_kept(v: u8) -> u8
+    ensures { λ r. ⌜ r ≡ ctrlKept v ⌝ }
+{
+    v / 128 * 128 + v % 8
+}
+
+// Zeroes the bytes.
+fn wipe_all(mem: &mut [u8])
+    requires { ⌜ length (now mem) ≡ 13056 ⌝ }
+    ensures { λ _. ⌜ now (mem .exit) ≡ wiped ⌝ }
+{
+    let mut i = 0;
+    while i < mem.len() {
+        mem[i] = 0;
+        i += 1;
+    }
+}
+
+// The reset of the whole part, with every byte.
+pub fn reset(mem: &mut [u8]) -> PartStepped
+    requires { ⌜ length (now mem) ≡ 13056 ⌝ }
+    ensures { λ r. ⌜ (r ≡ refusedPart freshPart 0) × (now (mem .exit) ≡ wiped) ⌝ }
+{
+    wipe_all(mem);
+    Part::new().refuse(0)
+}
+
+impl Part {
+    fn pending_at(self, c: usize) -> bool
+        requires { ⌜ c < 3 ⌝ }
+        ensures { λ r. ⌜ r ≡ pendingAt self c ⌝ }
+    {
+        let s = self.channels[c];
+        let f = s.flags;
+        pending(f, s.regs.intmsk)
+    }
+
+    fn active_at(self, c: usize) -> bool
+        requires { ⌜ c < 3 ⌝ }
+        ensures { λ r. ⌜ r ≡ activeAt self c ⌝ }
+    {
+        let s = self.channels[c];
+        let w = s.walk;
+        let p = w.phase;
+        rules::active(p)
+    }
+
+    // Whether channel c is pending and its CTRLINTMSK bit, of weight w, is 0.
+    fn pulls(self, c: usize, w: u8) -> bool
+        requires { ⌜ (c < 3) × (0 < w) ⌝ }
+        ensures { λ r. ⌜ r ≡ unmaskedOf (pendingAt self c) (self .mask) w ⌝ }
+    {
+        unmasked(self.pending_at(c), self.mask, w)
+    }
+
+    // Whether INT is pulled.
+    pub fn interrupt(self) -> bool
+        ensures { λ r. ⌜ r ≡ interruptOf self ⌝ }
+    {
+        if unmasked(self.be, self.mask, 0x80) {
+            return true;
+        }
+        if self.pulls(0, 0x01) {
+            return true;
+        }
+        if self.pulls(1, 0x02) {
+            return true;
+        }
+        self.pulls(2, 0x04)
+    }
+
+    fn ctrlstatus(self) -> u8
+        ensures { λ r. ⌜ r ≡ ctrlstatusOf self ⌝ }
+    {
+        weight(self.be, 0x80)
+            + weight(self.active_at(2), 0x20)
+            + weight(self.active_at(1), 0x10)
+            + weight(self.active_at(0), 0x08)
+            + weight(self.pending_at(2), 0x04)
+            + weight(self.pending_at(1), 0x02)
+            + weight(self.pending_at(0), 0x01)
+    }
+
+    fn read_ctrlstatus(self) -> PartStepped
+        ensures { λ r. ⌜ r ≡ ctrlRead self Ctrl.Ctrlstatus ⌝ }
+    {
+        let v = self.ctrlstatus();
+        self.with_be(false).reply(v)
+    }
+
+    // A read at F0h to FFh.
+    pub(crate) fn read_ctrl(self, reg: Ctrl) -> PartStepped
+        ensures { λ r. ⌜ r ≡ ctrlRead self reg ⌝ }
+    {
+        match reg {
+            Ctrl::Ctrlstatus => self.read_ctrlstatus(),
+            Ctrl::Ctrlintmsk => self.reply(self.mask),
+            Ctrl::Reserved => self.reply(0x00),
+            Ctrl::DeviceId => self.reply(0x63),
+            Ctrl::Ctrlpreset => self.reply(0x00),
+            Ctrl::Nothing => self.refuse(1),
+            Ctrl::Ctrlrdy => self.reply(0x00),
+        }
+    }
+
+    fn write_mask(self, v: u8) -> PartStepped
+        ensures { λ r. ⌜ r ≡ ctrlWritten self Ctrl.Ctrlintmsk v ⌝ }
+    {
+        self.with_mask(ctrl_kept(v)).refuse(0)
+    }
+
+    fn write_ctrl(self, reg: Ctrl, v: u8) -> PartStepped
+        ensures { λ r. ⌜ r ≡ ctrlWritten self reg v ⌝ }
+    {
+        match reg {
+            Ctrl::Ctrlstatus => self.refuse(2),
+            Ctrl::Ctrlintmsk => self.write_mask(v),
+            Ctrl::Reserved => self.refuse(2),
+            Ctrl::DeviceId => self.refuse(2),
+            Ctrl::Ctrlpreset => self.refuse(0),
+            Ctrl::Nothing => self.refuse(1),
+            Ctrl::Ctrlrdy => self.refuse(2),
+        }
+    }
+
+    // A write at F0h to FFh.
+    pub(crate) fn put_ctrl(self, mem: &mut [u8], reg: Ctrl, v: u8) -> PartStepped
+        requires { ⌜ length (now mem) ≡ 13056 ⌝ }
+        ensures { λ r. ⌜ (r ≡ ctrlPut self reg v) × (now (mem .exit) ≡ ctrlStore self (now (mem .entry)) reg v) ⌝ }
+    {
+        if ctrl_resets(reg, v, self.key) {
+            return reset(mem);
+        }
+        self.with_key(ctrl_key_after(reg, v)).write_ctrl(reg, v)
+    }
+}

@@ -1,0 +1,120 @@
+// The record of the part, and what a step answers.
+ghost use mathlib.Core.Path.{_≡_};
+ghost use Prim.Native.Nat.{_<_};
+ghost use Rattle.part.specs.State.{freshPart, told, refusedPart, repliedPart, quiet, onlyAt, withBe, withMask, withKey};
+use channel::Channel;
+use sequence::Action;
+
+// The part: its channels, BE, CTRLINTMSK, and whether A5h was written to CTRLPRESET.
+pub struct Part {
+    pub channels: [Channel; 3],
+    pub be: bool,
+    pub mask: u8,
+    pub key: bool,
+}
+
+// What one channel does on its wires.
+pub struct Act {
+    pub action: Action,
+}
+
+// The number of document 01, the value of a read, and an action for each channel.
+pub struct PartAnswer {
+    pub number: u8,
+    pub value: u8,
+    pub actions: [Act; 3],
+}
+
+// What a step gives back: the part, and its answer.
+pub struct PartStepped {
+    pub part: Part,
+    pub answer: PartAnswer,
+}
+
+// No action at all.
+pub(crate) fn no_acts() -> [Act; 3]
+    ensures { λ r. ⌜ r ≡ quiet ⌝ }
+{
+    let a = Act {
+        action: Action::Nothing,
+    };
+    [a, a, a]
+}
+
+// An action of channel c alone.
+pub(crate) fn act_at(c: usize, action: Action) -> [Act; 3]
+    requires { ⌜ c < 3 ⌝ }
+    ensures { λ r. ⌜ r ≡ onlyAt c action ⌝ }
+{
+    let mut acts = no_acts();
+    let a = Act { action };
+    acts[c] = a;
+    acts
+}
+
+impl Part {
+    // The part as a reset leaves it.
+    pub fn new() -> Self
+        ensures { λ r. ⌜ r ≡ freshPart ⌝ }
+    {
+        let c = Channel::new();
+        Part {
+            channels: [c, c, c],
+            be: false,
+            mask: 0,
+            key: false,
+        }
+    }
+
+    // The part with an answer of these actions.
+    pub(crate) fn tell(self, number: u8, value: u8, actions: [Act; 3]) -> PartStepped
+        ensures { λ r. ⌜ r ≡ told self number value actions ⌝ }
+    {
+        PartStepped {
+            part: self,
+            answer: PartAnswer {
+                number,
+                value,
+                actions,
+            },
+        }
+    }
+
+    // The part with an answer's number and nothing else.
+    pub(crate) fn refuse(self, number: u8) -> PartStepped
+        ensures { λ r. ⌜ r ≡ refusedPart self number ⌝ }
+    {
+        self.tell(number, 0, no_acts())
+    }
+
+    // The part with the value of a read.
+    pub(crate) fn reply(self, value: u8) -> PartStepped
+        ensures { λ r. ⌜ r ≡ repliedPart self value ⌝ }
+    {
+        self.tell(0, value, no_acts())
+    }
+
+    pub(crate) fn with_be(self, be: bool) -> Part
+        ensures { λ r. ⌜ r ≡ withBe self be ⌝ }
+    {
+        let mut p = self;
+        p.be = be;
+        p
+    }
+
+    pub(crate) fn with_mask(self, mask: u8) -> Part
+        ensures { λ r. ⌜ r ≡ withMask self mask ⌝ }
+    {
+        let mut p = self;
+        p.mask = mask;
+        p
+    }
+
+    pub(crate) fn with_key(self, key: bool) -> Part
+        ensures { λ r. ⌜ r ≡ withKey self key ⌝ }
+    {
+        let mut p = self;
+        p.key = key;
+        p
+    }
+}

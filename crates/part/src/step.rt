@@ -1,0 +1,167 @@
+// One step of the part: of one channel, of the whole part, or of none.
+ghost use mathlib.Core.Bool.{true};
+ghost use mathlib.Core.Path.{_≡_};
+ghost use Prim.Native.Nat.{_<_};
+ghost use lib.ListN.{length};
+ghost use Rattle.part.specs.Map.{InPart};
+ghost use Rattle.part.specs.Step.{beAfter, keyKept, oneStep, oneBytes, triggerStep, partServed, partStored, maskIn, channelsIn, partIn, accepts, partStep, partBytes, Whole};
+use crate::map::Step;
+use crate::map::Target;
+use crate::map::target_of;
+use crate::registers::reset;
+use crate::state::Act;
+use crate::state::Part;
+use crate::state::PartAnswer;
+use crate::state::PartStepped;
+use crate::state::act_at;
+use crate::state::no_acts;
+use channel::Op;
+use sequence::Edge;
+
+fn be_after(be: bool, number: u8) -> bool
+    ensures { λ r. ⌜ r ≡ beAfter be number ⌝ }
+{
+    if number == 5 { true } else { be }
+}
+
+fn key_kept(op: Op, key: bool) -> bool
+    ensures { λ r. ⌜ r ≡ keyKept op key ⌝ }
+{
+    match op {
+        Op::Write(_, _) => false,
+        Op::Read(_) => key,
+        Op::Wire(_) => key,
+    }
+}
+
+fn mask_in(mask: u8) -> bool
+    ensures { λ r. ⌜ r ≡ maskIn mask ⌝ }
+{
+    mask / 8 % 16 == 0
+}
+
+impl Part {
+    // A step of channel c, on its own 4,352 bytes.
+    fn one(self, mem: &mut [u8], c: u8, op: Op) -> PartStepped
+        requires { ⌜ Whole self (now mem) × (c < 3) ⌝ }
+        ensures { λ r. ⌜ (r ≡ oneStep self (now (mem .entry)) c op) × (now (mem .exit) ≡ oneBytes self (now (mem .entry)) c op) ⌝ }
+    {
+        let i = c as usize;
+        let start = 4352 * i;
+        let end = start + 4352;
+        let mut channels = self.channels;
+        let s = channels[i];
+        let r = s.serve(c, &mut mem[start..end], op);
+        let t = r.channel;
+        channels[i] = t;
+        let a = r.answer;
+        let action = a.action;
+        let actions = act_at(i, action);
+        PartStepped {
+            part: Part {
+                channels,
+                be: be_after(self.be, a.number),
+                mask: self.mask,
+                key: key_kept(op, self.key),
+            },
+            answer: PartAnswer {
+                number: a.number,
+                value: a.value,
+                actions,
+            },
+        }
+    }
+
+    // A trigger edge over all three channels, with an action for each.
+    fn trigger(self, edge: Edge) -> PartStepped
+        requires { ⌜ partIn self ≡ true ⌝ }
+        ensures { λ r. ⌜ r ≡ triggerStep self edge ⌝ }
+    {
+        let mut channels = self.channels;
+        let mut actions = no_acts();
+        let mut be = self.be;
+        let mut i = 0;
+        while i < 3 {
+            let s = channels[i];
+            let r = s.trigger(edge);
+            let t = r.channel;
+            channels[i] = t;
+            let a = r.answer;
+            let action = a.action;
+            let act = Act { action };
+            actions[i] = act;
+            be = be_after(be, a.number);
+            i += 1;
+        }
+        PartStepped {
+            part: Part {
+                channels,
+                be,
+                mask: self.mask,
+                key: self.key,
+            },
+            answer: PartAnswer {
+                number: 0,
+                value: 0,
+                actions,
+            },
+        }
+    }
+
+    fn serve(self, mem: &mut [u8], t: Target) -> PartStepped
+        requires { ⌜ Whole self (now mem) × InPart t ⌝ }
+        ensures { λ r. ⌜ (r ≡ partServed self (now (mem .entry)) t) × (now (mem .exit) ≡ partStored self (now (mem .entry)) t) ⌝ }
+    {
+        match t {
+            Target::One(c, op) => self.one(mem, c, op),
+            Target::CtrlWrite(reg, v) => self.put_ctrl(mem, reg, v),
+            Target::CtrlRead(reg) => self.read_ctrl(reg),
+            Target::AllTrigger(edge) => self.trigger(edge),
+            Target::AllReset => reset(mem),
+            Target::Beyond => self.refuse(1),
+        }
+    }
+
+    fn channels_in(self) -> bool
+        ensures { λ r. ⌜ r ≡ channelsIn (self .channels) ⌝ }
+    {
+        let channels = self.channels;
+        let mut i = 0;
+        while i < 3 {
+            let s = channels[i];
+            if !s.in_range() {
+                return false;
+            }
+            i += 1;
+        }
+        true
+    }
+
+    // Whether the part is in a state that a step can leave.
+    pub fn in_range(self) -> bool
+        ensures { λ r. ⌜ r ≡ partIn self ⌝ }
+    {
+        if self.channels_in() {
+            mask_in(self.mask)
+        } else {
+            false
+        }
+    }
+
+    fn accepts_len(self, len: usize) -> bool
+        ensures { λ r. ⌜ r ≡ accepts self len ⌝ }
+    {
+        if len == 13056 { self.in_range() } else { false }
+    }
+
+    // One step of the part, at any record and any memory.
+    pub fn step(self, mem: &mut [u8], s: Step) -> PartStepped
+        ensures { λ r. ⌜ (r ≡ partStep self (now (mem .entry)) s) × (now (mem .exit) ≡ partBytes self (now (mem .entry)) s) ⌝ }
+    {
+        if !self.accepts_len(mem.len()) {
+            return self.refuse(9);
+        }
+        let t = target_of(s);
+        self.serve(mem, t)
+    }
+}
