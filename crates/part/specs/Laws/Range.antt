@@ -1,17 +1,20 @@
--- What a part in range says of each of its channels.
+-- What a part in range says of each of its channels, and a step by whether it is refused by no. 9.
 use Prim.Native.Nat.{ℕ, zero, suc, _<_}
-use mathlib.Core.Bool.{Bool, true}
+use mathlib.Core.Bool.{Bool, true, false}
 use mathlib.Core.List.{List, [], _∷_}
 use mathlib.Core.Path.{_≡_}
 use native.Mathlib.Nat.{not-suc-le-zero, le-of-suc-le-suc}
 use borrow.Author.Tests.{eqb-true}
 use lib.ListN.{length, getD}
+use Rattle.laws.specs.Pick.{if_then_else_}
 use Rattle.laws.specs.Cases.{both}
 use Rattle.channel.specs.declared.state.Channel.{Channel}
 use Rattle.channel.specs.Range.{inRange}
+use Rattle.part.specs.declared.map.Step.{Step}
 use Rattle.part.specs.declared.state.Part.{Part}
-use Rattle.part.specs.State.{blank}
-use Rattle.part.specs.Step.{channelsIn, maskIn, partIn, accepts, Whole}
+use Rattle.part.specs.State.{blank, refusedPart}
+use Rattle.part.specs.Map.{targetOf}
+use Rattle.part.specs.Step.{channelsIn, maskIn, partIn, accepts, partServed, partStored, partStep, partBytes, Whole}
 
 pub each-in : (l : List Channel) (c : ℕ) → channelsIn l ≡ true → c < length l → inRange (getD l c blank) ≡ true
 unfolding channelsIn
@@ -31,3 +34,21 @@ mask-of p e = both _ _ e .1
 pub accepts-whole : (p : Part) (m : List ℕ) → accepts p (length m) ≡ true → Whole p m
 unfolding accepts
 accepts-whole p m e = let b = both _ _ e in record { ranged = b .1; whole = eqb-true _ _ (b .0) }
+
+-- ---- a step by whether no. 9 refuses it
+module _ (p : Part) (m : List ℕ) (s : Step) where
+  pub step-accepted : accepts p (length m) ≡ true → partStep p m s ≡ partServed p m (targetOf s)
+  unfolding partStep if_then_else_
+  step-accepted e = rw e
+
+  pub bytes-accepted : accepts p (length m) ≡ true → partBytes p m s ≡ partStored p m (targetOf s)
+  unfolding partBytes if_then_else_
+  bytes-accepted e = rw e
+
+  pub step-refused : accepts p (length m) ≡ false → partStep p m s ≡ refusedPart p 9
+  unfolding partStep if_then_else_
+  step-refused e = rw e
+
+  pub bytes-refused : accepts p (length m) ≡ false → partBytes p m s ≡ m
+  unfolding partBytes if_then_else_
+  bytes-refused e = rw e

@@ -1,0 +1,148 @@
+-- No step of the part leads out of range, and a step keeps the number of bytes.
+use Prim.Native.Nat.{ℕ, zero, suc, _/_, _%_, _<_}
+use mathlib.Core.Bool.{Bool, true, false}
+use mathlib.Core.List.{List, [], _∷_, map}
+use mathlib.Core.Path.{_≡_, refl, sym, _∙_, ap}
+use native.Mathlib.Omega.{arith}
+use borrow.Author.Tests.{eq-eqb}
+use lib.Dec.{ltb, eqb}
+use lib.ListN.{length, getD, set, length-replicate}
+use Rattle.laws.specs.Pick.{if_then_else_}
+use Rattle.laws.specs.Cases.{pick-holds, both, with}
+use Rattle.sequence.specs.declared.wires.Edge.{Edge}
+use Rattle.channel.specs.declared.state.Channel.{Channel}
+use Rattle.channel.specs.declared.step.Op.{Op}
+use Rattle.channel.specs.Range.{inRange}
+use Rattle.channel.specs.Step.{servedBy, servedStore}
+use Rattle.channel.specs.State.{fresh}
+use Rattle.channel.specs.Laws.Kept.{serves-in-range, fresh-in-range, served-length}
+use Rattle.channel.specs.Laws.Frames.{trigger-in-range}
+use Rattle.part.specs.declared.map.Ctrl.{Ctrl}
+use Rattle.part.specs.declared.map.Ctrl.the-variants.{Ctrlstatus, Ctrlintmsk, Reserved, DeviceId, Ctrlpreset, Nothing, Ctrlrdy}
+use Rattle.part.specs.declared.map.Step.{Step}
+use Rattle.part.specs.declared.map.Target.{Target}
+use Rattle.part.specs.declared.map.Target.the-variants.{One, CtrlWrite, CtrlRead, AllTrigger, AllReset, Beyond}
+use Rattle.part.specs.declared.state.Part.{Part}
+use Rattle.part.specs.declared.state.PartStepped.{PartStepped}
+use Rattle.part.specs.State.{blank, chan, freshPart, wiped, window, withKey}
+use Rattle.part.specs.Map.{targetOf, InPart}
+use Rattle.part.specs.Registers.{ctrlKept, ctrlRead, ctrlWritten, ctrlKeyAfter, ctrlResets, ctrlPut, ctrlStore}
+use Rattle.part.specs.Step.{edgeChannel, oneStep, oneBytes, triggerStep, partServed, partStored, channelsIn, maskIn, partIn, accepts, partStep, partBytes}
+use Rattle.part.specs.Laws.Map.{in-part}
+use Rattle.part.specs.Laws.Memory.{fits, length-window, length-put}
+use Rattle.part.specs.Laws.Range.{accepts-whole}
+
+-- ---- the channels
+set-in : (f : Channel → Channel) → ((x : Channel) → inRange x ≡ true → inRange (f x) ≡ true) → (l : List Channel) (c : ℕ) → channelsIn l ≡ true → channelsIn (set l c (f (getD l c blank))) ≡ true
+unfolding channelsIn
+set-in f k [] c e = e
+set-in f k (x ∷ l) zero e = let b = both _ _ e in with _ _ (k x (b .0)) (b .1)
+set-in f k (x ∷ l) (suc c) e = let b = both _ _ e in with _ _ (b .0) (set-in f k l c (b .1))
+
+map-in : (f : Channel → Channel) → ((x : Channel) → inRange x ≡ true → inRange (f x) ≡ true) → (l : List Channel) → channelsIn l ≡ true → channelsIn (map f l) ≡ true
+unfolding channelsIn
+map-in f k [] e = e
+map-in f k (x ∷ l) e = let b = both _ _ e in with _ _ (k x (b .0)) (map-in f k l (b .1))
+
+-- ---- in range: the channels, and CTRLINTMSK
+abbrev In : Part → Type 0
+In p = (channelsIn (p .channels) ≡ true) × (maskIn (p .mask) ≡ true)
+
+in-of : (p : Part) → partIn p ≡ true → In p
+unfolding partIn
+in-of p e = both _ _ e
+
+of-in : (p : Part) → In p → partIn p ≡ true
+unfolding partIn
+of-in p h = with _ _ (h .0) (h .1)
+
+Good : PartStepped → Type 0
+Good r = In (r .part)
+
+fresh-in : In freshPart
+unfolding channelsIn
+fresh-in = (with _ _ fresh-in-range (with _ _ fresh-in-range (with _ _ fresh-in-range refl)), refl)
+
+module _ (p : Part) (h : In p) where
+  one-in : (m : List ℕ) (c : ℕ) (op : Op) → Good (oneStep p m c op)
+  unfolding Good oneStep
+  one-in m c op = (set-in (λ x. servedBy x (window c m) c op .channel) (λ x e. serves-in-range x (window c m) c op e) (p .channels) c (h .0), h .1)
+
+  trigger-in : (edge : Edge) → Good (triggerStep p edge)
+  unfolding Good triggerStep
+  trigger-in edge = (map-in (edgeChannel edge) (λ x e. trigger-in-range x edge e) (p .channels) (h .0), h .1)
+
+  read-in : (reg : Ctrl) → Good (ctrlRead p reg)
+  unfolding Good ctrlRead
+  read-in Ctrlstatus = h
+  read-in Ctrlintmsk = h
+  read-in Reserved = h
+  read-in DeviceId = h
+  read-in Ctrlpreset = h
+  read-in Nothing = h
+  read-in Ctrlrdy = h
+
+  kept-in : (v : ℕ) → ctrlKept v / 8 % 16 ≡ 0
+  kept-in v = omega arith
+
+  written-in : (key : Bool) (reg : Ctrl) (v : ℕ) → Good (ctrlWritten (withKey p key) reg v)
+  unfolding Good ctrlWritten
+  written-in key Ctrlstatus v = h
+  written-in key Ctrlintmsk v = (h .0, eq-eqb _ _ (kept-in v))
+  written-in key Reserved v = h
+  written-in key DeviceId v = h
+  written-in key Ctrlpreset v = h
+  written-in key Nothing v = h
+  written-in key Ctrlrdy v = h
+
+  put-in : (reg : Ctrl) (v : ℕ) → Good (ctrlPut p reg v)
+  unfolding ctrlPut Good
+  put-in reg v = pick-holds Good (ctrlResets reg v (p .key)) (λ _. fresh-in) (λ _. written-in (ctrlKeyAfter reg v) reg v)
+
+  served-in : (m : List ℕ) (t : Target) → Good (partServed p m t)
+  unfolding partServed Good
+  served-in m (One c op) = one-in m c op
+  served-in m (CtrlWrite reg v) = put-in reg v
+  served-in m (CtrlRead reg) = read-in reg
+  served-in m (AllTrigger edge) = trigger-in edge
+  served-in m AllReset = fresh-in
+  served-in m Beyond = h
+
+-- NO STEP LEADS OUT OF RANGE
+pub part-stays-in-range : (p : Part) (m : List ℕ) (s : Step) → partIn p ≡ true → partIn (partStep p m s .part) ≡ true
+unfolding partStep Good
+part-stays-in-range p m s e =
+    let h = in-of p e in
+    of-in _ (pick-holds Good (accepts p (length m)) (λ _. served-in p h m (targetOf s)) (λ _. h))
+
+-- the reset state is in range
+pub fresh-part-in-range : partIn freshPart ≡ true
+fresh-part-in-range = of-in freshPart fresh-in
+
+-- ---- A STEP KEEPS THE NUMBER OF BYTES
+pub wiped-length : length wiped ≡ 13056
+unfolding wiped
+wiped-length = length-replicate {A = ℕ} 13056 0
+
+Same : List ℕ → List ℕ → Type 0
+Same m l = length l ≡ length m
+
+module _ (p : Part) (m : List ℕ) (whole : length m ≡ 13056) where
+  pub one-length : (c : ℕ) (op : Op) → c < 3 → length (servedStore (chan p c) (window c m) c op) ≡ 4352
+  one-length c op h = let w = length-window c m (fits c m h whole) in served-length (chan p c) (window c m) c w op ∙ w
+
+  stored-length : (t : Target) → InPart t → Same m (partStored p m t)
+  unfolding partStored oneBytes ctrlStore Same
+  stored-length (One c op) h = length-put c _ m (one-length c op h) (fits c m h whole)
+  stored-length (CtrlWrite reg v) h = pick-holds (Same m) (ctrlResets reg v (p .key)) (λ _. wiped-length ∙ sym whole) (λ _. refl)
+  stored-length (CtrlRead reg) h = refl
+  stored-length (AllTrigger edge) h = refl
+  stored-length AllReset h = wiped-length ∙ sym whole
+  stored-length Beyond h = refl
+
+pub part-length : (p : Part) (m : List ℕ) (s : Step) → length (partBytes p m s) ≡ length m
+unfolding partBytes Same
+part-length p m s =
+    pick-holds (Same m) (accepts p (length m))
+    (λ t. stored-length p m (accepts-whole p m t .whole) (targetOf s) (in-part s))
+    (λ _. refl)
