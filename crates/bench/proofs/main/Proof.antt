@@ -1,0 +1,33 @@
+-- `bench::main` is safe, and ends.
+use borrow.Author.Needs.{needs}
+use lib.ListN.{length}
+use mathlib.Core.Path.{_≡_}
+use Rattle.bench.proofs.main.Statement.{statement}
+use Rattle.bench.proofs.main.Tie as tie
+
+abbrev Inv-loop : tie.InvT-loop
+Inv-loop block₀ out₀ mem₀ b₀ turns₀ block out mem b turns = (length block ≡ 65536) × (length out ≡ 65536) × (length mem ≡ 13056)
+
+abbrev μ-loop : tie.MeasureT-loop
+μ-loop block₀ out₀ mem₀ b₀ turns₀ block out mem b turns = turns
+
+pub main-spec : {M : Type 1} → statement M
+main-spec =
+    tie.close
+    (tie.spec
+    Inv-loop
+    μ-loop
+    (λ c. search needs)
+    (λ c. search needs)
+    (λ c. search needs)
+    (λ c. search needs)
+    (λ c. search needs)
+    (λ c. search needs)
+    (λ c. search needs)
+    (λ c. search needs)
+    (λ c. search needs)
+    (λ c. search needs)
+    (λ c. search needs)
+    (λ c. search needs)
+    (λ c. search needs)
+    (λ c. search needs))

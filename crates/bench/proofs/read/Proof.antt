@@ -1,0 +1,16 @@
+-- `bench::read` is safe: the first n bytes are n bytes.
+use borrow.Author.Needs.{needs}
+use lib.Seq.{length-take-le}
+use mathlib.Core.Path.{sym}
+use Rattle.bench.proofs.read.Statement.{statement}
+use Rattle.bench.proofs.read.Tie as tie
+
+pub read-spec : {M : Type 1} → statement M
+read-spec =
+    tie.close
+    (tie.spec
+    (λ c. search needs)
+    (λ c. sym (length-take-le (c .before .before .args .n) (c .before .before .args .t1) (search needs)))
+    (λ c. search needs)
+    (λ c. search needs)
+    (λ c. search needs))

@@ -1,0 +1,49 @@
+-- A line against a form, one law for each way that the loop of `fits` ends or goes on; and what stands past a line's end.
+use mathlib.Core.Bool.{Bool, true, false}
+use mathlib.Core.List.{List, [], _∷_}
+use mathlib.Core.Path.{_≡_, refl, sym, _∙_, ap}
+use Prim.Native.Nat.{ℕ, suc, _+_, _<_, _≤_}
+use native.Mathlib.Numerals.{add-one}
+use native.Mathlib.Omega.{arith}
+use borrow.Author.Needs.{needs}
+use lib.ListN.{length, getD, drop, drop-of-length-le, List·getD-eq-default}
+use lib.Seq.{drop-cons}
+use Rattle.laws.specs.Pick.{if_then_else_}
+use Rattle.laws.specs.Cases.{pick-holds}
+use Rattle.script.specs.Grammar.{hexOf, digitAt, suiting, fitting}
+
+pub fit-length : (f l : List ℕ) → (length f ≡ length l → ⊥) → false ≡ fitting f l
+unfolding fitting if_then_else_
+fit-length [] [] h = absurd (h refl)
+fit-length [] (b ∷ l) h = refl
+fit-length (a ∷ f) [] h = refl
+fit-length (a ∷ f) (b ∷ l) h =
+    pick-holds (λ (r : Bool). false ≡ r) (suiting a b) (λ _. fit-length f l (λ e. h (ap suc e))) (λ _. refl)
+
+pub fit-all : (f l : List ℕ) (i : ℕ) → length f ≡ length l → fitting f l ≡ fitting (drop i f) (drop i l) → length f ≤ i → true ≡ fitting f l
+unfolding fitting
+fit-all f l i e p h =
+    let k : length l ≤ i = omega arith in
+    sym (p ∙ rw (drop-of-length-le f h, drop-of-length-le l k))
+
+module _ (f l : List ℕ) (i : ℕ) (r b : Bool) (e : length f ≡ length l) (p : r ≡ fitting (drop i f) (drop i l)) (h : i < length f)
+    (q : b ≡ suiting (getD f i 0) (getD l i 0)) where
+  opened : r ≡ (if b then fitting (drop (i + 1) f) (drop (i + 1) l) else false)
+  unfolding fitting
+  opened =
+      let k : i < length l = omega arith in
+      p ∙ rw (drop-cons f i 0 h, drop-cons l i 0 k, ← q, add-one)
+
+  pub fit-more : b ≡ true → r ≡ fitting (drop (i + 1) f) (drop (i + 1) l)
+  unfolding if_then_else_
+  fit-more t = rw t at opened
+
+  pub fit-not : b ≡ false → false ≡ r
+  unfolding if_then_else_
+  fit-not t = sym (rw t at opened)
+
+pub digit-past : (l : List ℕ) (i : ℕ) → length l ≤ i → 0 ≡ digitAt l i
+unfolding hexOf if_then_else_
+digit-past l i h = rw (List·getD-eq-default l 0 h)
+
+pub ruleset fit = (fit-length, fit-all, fit-more, fit-not, digit-past, needs)

@@ -1,0 +1,12 @@
+-- `script::reading::byte_event` meets its contract.
+use borrow.Author.Needs.{needs}
+use Rattle.script.proofs.reading.byte_event.Statement.{statement}
+use Rattle.script.proofs.reading.byte_event.Tie as tie
+
+pub byte-event-spec : {M : Type 1} → statement M
+byte-event-spec =
+    tie.close
+    (tie.spec
+    (λ c. search needs)
+    (λ c. search needs)
+    (λ c. cc))

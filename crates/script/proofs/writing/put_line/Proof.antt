@@ -1,0 +1,32 @@
+-- `script::writing::put_line` meets its contract: six texts, one after the other.
+use Rattle.script.proofs.Laws.Writing.{put-then}
+use Rattle.script.specs.Answer.{answerLine}
+use borrow.Author.Needs.{needs}
+use Rattle.script.proofs.writing.put_line.Statement.{statement}
+use Rattle.script.proofs.writing.put_line.Tie as tie
+
+pub put-line-spec : {M : Type 1} → statement M
+unfolding answerLine
+put-line-spec =
+    tie.close
+    (tie.spec
+    (λ c. search needs)
+    (λ c. search needs)
+    (λ c. search needs)
+    (λ c. search needs)
+    (λ c. search needs)
+    (λ c. search needs)
+    (λ c. search needs)
+    (λ c. search needs)
+    (λ c. search needs)
+    (λ c. search needs)
+    (λ c.
+    let u = c .before .before in
+    let t = u .before .before .before .before .before in
+    let s = t .before .before .before .before in
+    let r = s .before .before .before .before in
+    let q = r .before .before .before .before .before in
+    let p = q .before .before .before .before .before in
+    put-then (p .put-decimal .ensures .0)
+    (put-then (q .put .ensures)
+    (put-then (r .put-decimal2 .ensures .0) (put-then (s .put-middle .ensures) (put-then (t .put-actions .ensures .0) (u .put2 .ensures)))))))

@@ -1,0 +1,15 @@
+-- `script::writing::write_answer` meets its contract.
+use Rattle.script.proofs.Laws.Writing.{puts, room-is}
+use borrow.Author.Needs.{needs}
+use Rattle.script.proofs.writing.write_answer.Statement.{statement}
+use Rattle.script.proofs.writing.write_answer.Tie as tie
+
+pub write-answer-spec : {M : Type 1} → statement M
+write-answer-spec =
+    tie.close
+    (tie.spec
+    (λ c. search needs)
+    (λ c. λ κs. room-is _ _ _ (c .before .before .has-room .ensures) (c .before .if1 .taken))
+    (λ c. search needs)
+    (λ c. search puts)
+    (λ c. search puts))

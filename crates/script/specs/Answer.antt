@@ -1,0 +1,104 @@
+-- Document 01, 'The script program': what is printed, byte by byte.
+use Prim.Native.Nat.{ℕ, zero, suc, _+_, _/_, _%_}
+use mathlib.Core.Bool.{Bool, true, false, not}
+use mathlib.Core.List.{List, [], _∷_, _++_}
+use mathlib.Core.Path.{_≡_}
+use lib.Dec.{ltb, leb}
+use lib.ListN.{length, getD, take}
+use lib.Seq.{sets}
+use Rattle.laws.specs.Pick.{if_then_else_}
+use Rattle.part.specs.declared.state.Act.{Act}
+use Rattle.part.specs.declared.state.PartAnswer.{PartAnswer}
+use Rattle.sequence.specs.Action.{digitOf, textOf}
+use Rattle.sequence.specs.declared.wires.Action.{Action}
+use Rattle.sequence.specs.declared.wires.Action.the-variants.{Nothing, S, R, D, C, A, Np, Nr, P}
+use Rattle.script.specs.Ascii.{ascii}
+
+-- a text is put at a place: `r` is the place after it, and the bytes `m` are those before, `l`, with the text from that place on
+pub record Put (l : List ℕ) (at : ℕ) (text : List ℕ) (r : ℕ) (m : List ℕ) : Type 0 where
+  pub place : r ≡ at + length text
+  pub bytes : m ≡ sets l at text
+
+-- at most n decimal digits, the last one last; 0 stands at 48
+unfoldable pub digitsOf : ℕ → ℕ → List ℕ
+digitsOf zero x = []
+digitsOf (suc n) x = (if ltb x 10 then [] else digitsOf n (x / 10)) ++ ((48 + x % 10) ∷ [])
+
+-- step and answer numbers are decimal; the largest step number, 2^64 - 1, has 20 digits
+abbrev pub decimalOf : ℕ → List ℕ
+decimalOf x = digitsOf 20 x
+
+-- INT: 1 pulled
+unfoldable pub levelOf : Bool → ℕ
+levelOf int = if int then 49 else 48
+
+-- value and INT, and the blanks round them
+abbrev pub middleOf : ℕ → Bool → List ℕ
+middleOf value int = 32 ∷ digitOf (value / 16) ∷ digitOf (value % 16) ∷ 32 ∷ levelOf int ∷ 32 ∷ []
+
+-- a channel acts
+abbrev pub busyOf : Action → Bool
+busyOf Nothing = false
+busyOf (S sla) = true
+busyOf (R sla) = true
+busyOf (D b) = true
+busyOf C = true
+busyOf A = true
+busyOf Np = true
+busyOf (Nr sla) = true
+busyOf P = true
+
+-- a text where a test holds, else nothing
+unfoldable pub textIf : Bool → List ℕ → List ℕ
+textIf b text = if b then text else []
+
+abbrev pub onlyIf : Bool → ℕ → List ℕ
+onlyIf b x = textIf b (x ∷ [])
+
+-- an action without spaces
+abbrev pub letters : Action → List ℕ
+letters a = take (textOf a .len) (textOf a .bytes)
+
+-- channel, colon, action; a comma (44) before it where an action stands before it
+abbrev pub entryOf : Bool → ℕ → Action → List ℕ
+entryOf later c a = onlyIf later 44 ++ (((48 + c) ∷ 58 ∷ []) ++ letters a)
+
+unfoldable pub actionOf : Bool → ℕ → Action → List ℕ
+actionOf later c a = textIf (busyOf a) (entryOf later c a)
+
+abbrev pub actionAt : List Act → ℕ → Action
+actionAt l i = getD l i (record { action = Nothing }) .action
+
+abbrev pub orOf : Bool → Bool → Bool
+orOf a b = if a then a else b
+
+-- the actions, lowest channel first, or `-` (45)
+unfoldable pub actionsOf : List Act → List ℕ
+actionsOf l =
+    actionOf false 0 (actionAt l 0)
+    ++ (actionOf (busyOf (actionAt l 0)) 1 (actionAt l 1)
+    ++ (actionOf (orOf (busyOf (actionAt l 0)) (busyOf (actionAt l 1))) 2 (actionAt l 2)
+    ++ onlyIf (not (orOf (orOf (busyOf (actionAt l 0)) (busyOf (actionAt l 1))) (busyOf (actionAt l 2)))) 45))
+
+-- step number, answer number, value, INT, actions, and LF
+unfoldable pub answerLine : ℕ → PartAnswer → Bool → List ℕ
+answerLine step reply int =
+    decimalOf step
+    ++ (ascii " "
+    ++ (decimalOf (reply .number)
+    ++ (middleOf (reply .value) int
+    ++ (actionsOf (reply .actions)
+    ++ ascii "\n"))))
+
+abbrev pub header : List ℕ
+header = ascii "step code value int actions\n"
+
+-- a line has at most 51 bytes; it is put only where 80 are left
+abbrev pub roomy : ℕ → ℕ → Bool
+roomy len at = leb (at + 80) len
+
+-- the answer to a line that can't be read: no. 8, value 00, no action
+abbrev pub noAnswer : PartAnswer
+noAnswer =
+    let none : Act = record { action = Nothing } in
+    record { number = 8; value = 0; actions = none ∷ none ∷ none ∷ [] }

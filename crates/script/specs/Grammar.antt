@@ -1,0 +1,79 @@
+-- Document 01, 'The script program': which step a line asks for. A line is the list of its bytes, without its LF.
+use Prim.Native.Nat.{ℕ, _+_, _*_, _-_}
+use mathlib.Core.Bool.{Bool, true, false}
+use mathlib.Core.List.{List, [], _∷_}
+use lib.Dec.{eqb, leb, ltb}
+use lib.ListN.{getD}
+use Rattle.laws.specs.Pick.{if_then_else_}
+use Rattle.part.specs.declared.map.Step.{Step}
+use Rattle.part.specs.declared.map.Step.the-variants.{Write, Read, Wire, Trigger, Reset}
+use Rattle.sequence.specs.declared.wires.Edge.the-variants.{Rising, Falling}
+use Rattle.sequence.specs.declared.wires.Event.{Event}
+use Rattle.sequence.specs.declared.wires.Event.the-variants.{Ack, Nack, Byte, Tick, Stop, Sda, Scl, Ill}
+use Rattle.script.specs.Ascii.{ascii}
+use Rattle.script.specs.declared.reading.Line.{Line}
+use Rattle.script.specs.declared.reading.Line.the-variants.{Readable, Unreadable}
+
+-- upper-case hex: 0 to 9 stand at 48 to 57, A to F at 65 to 70
+unfoldable pub isHex : ℕ → Bool
+isHex b = if ltb b 58 then leb 48 b else if ltb b 71 then leb 65 b else false
+
+-- the value of a hex digit, and 0 of any other byte
+unfoldable pub hexOf : ℕ → ℕ
+hexOf b = if ltb b 48 then 0 else if ltb b 58 then b - 48 else if ltb b 65 then 0 else if ltb b 71 then b - 55 else 0
+
+-- the value of the digit at place i of a line, and of the two digits from there
+abbrev pub digitAt : List ℕ → ℕ → ℕ
+digitAt l i = hexOf (getD l i 0)
+
+abbrev pub byteAt : List ℕ → ℕ → ℕ
+byteAt l i = 16 * digitAt l i + digitAt l (i + 1)
+
+-- a form is written as document 01 writes it: its lower-case letters, from 97 on, stand for hex digits, every other byte for itself
+unfoldable pub suiting : ℕ → ℕ → Bool
+suiting letter b = if leb 97 letter then isHex b else eqb b letter
+
+-- a line has a form: it has as many bytes, and each suits its letter; nothing before, between or after them
+unfoldable pub fitting : List ℕ → List ℕ → Bool
+fitting [] [] = true
+fitting [] (b ∷ l) = false
+fitting (letter ∷ form) [] = false
+fitting (letter ∷ form) (b ∷ l) = if suiting letter b then fitting form l else false
+
+-- an event of channel c, the digit at place 2
+abbrev pub wireLine : List ℕ → Event → Line
+wireLine l e = Readable (Wire (digitAt l 2) e)
+
+unfoldable pub faultLine : List ℕ → Line
+faultLine l =
+    if fitting (ascii "E c SDA") l then wireLine l Sda
+    else if fitting (ascii "E c SCL") l then wireLine l Scl
+    else if fitting (ascii "E c ILL") l then wireLine l Ill
+    else Unreadable
+
+unfoldable pub clockLine : List ℕ → Line
+clockLine l =
+    if fitting (ascii "E c TICK") l then wireLine l Tick
+    else if fitting (ascii "E c STOP") l then wireLine l Stop
+    else faultLine l
+
+unfoldable pub eventLine : List ℕ → Line
+eventLine l =
+    if fitting (ascii "E c ACK") l then wireLine l Ack
+    else if fitting (ascii "E c NACK") l then wireLine l Nack
+    else if fitting (ascii "E c BYTE bb") l then wireLine l (Byte (byteAt l 9))
+    else clockLine l
+
+unfoldable pub edgeLine : List ℕ → Line
+edgeLine l =
+    if fitting (ascii "T R") l then Readable (Trigger Rising)
+    else if fitting (ascii "T F") l then Readable (Trigger Falling)
+    else eventLine l
+
+-- a step a line: a write, a read, the hardware reset, an edge of the trigger, an event; any other line can't be read
+unfoldable pub lineOf : List ℕ → Line
+lineOf l =
+    if fitting (ascii "W aa dd") l then Readable (Write (byteAt l 2) (byteAt l 5))
+    else if fitting (ascii "R aa") l then Readable (Read (byteAt l 2))
+    else if fitting (ascii "X") l then Readable Reset
+    else edgeLine l
