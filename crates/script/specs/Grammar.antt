@@ -5,7 +5,6 @@ use mathlib.Core.List.{List, [], _∷_}
 use lib.Dec.{eqb, leb, ltb}
 use lib.ListN.{getD}
 use Rattle.laws.specs.Pick.{if_then_else_}
-use Rattle.part.specs.declared.map.Step.{Step}
 use Rattle.part.specs.declared.map.Step.the-variants.{Write, Read, Wire, Trigger, Reset}
 use Rattle.sequence.specs.declared.wires.Edge.the-variants.{Rising, Falling}
 use Rattle.sequence.specs.declared.wires.Event.{Event}
