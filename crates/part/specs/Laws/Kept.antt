@@ -24,7 +24,7 @@ use Rattle.part.specs.declared.state.PartStepped.{PartStepped}
 use Rattle.part.specs.State.{blank, chan, freshPart, wiped, window, withKey}
 use Rattle.part.specs.Map.{targetOf, InPart}
 use Rattle.part.specs.Registers.{ctrlKept, ctrlRead, ctrlWritten, ctrlKeyAfter, ctrlResets, ctrlPut, ctrlStore}
-use Rattle.part.specs.Step.{edgeChannel, oneStep, oneBytes, triggerStep, partServed, partStored, channelsIn, maskIn, partIn, accepts, partStep, partBytes}
+use Rattle.part.specs.Step.{edgeChannel, oneStep, oneBytes, triggerStep, partServed, partStored, channelsIn, maskIn, partIn, accepts, partStep, partBytes, Whole}
 use Rattle.part.specs.Laws.Map.{in-part}
 use Rattle.part.specs.Laws.Memory.{fits, length-window, length-put}
 use Rattle.part.specs.Laws.Range.{accepts-whole}
@@ -143,3 +143,7 @@ part-length p m s =
     pick-holds (Same m) (accepts p (length m))
     (λ t. stored-length p m (accepts-whole p m t .whole) (targetOf s) (in-part s))
     (λ _. refl)
+
+-- ---- what no. 9 does not refuse, it does not refuse after a step either
+pub whole-kept : (p : Part) (m : List ℕ) (s : Step) → Whole p m → Whole (partStep p m s .part) (partBytes p m s)
+whole-kept p m s w = record { ranged = part-stays-in-range p m s (w .ranged); whole = part-length p m s ∙ w .whole }
