@@ -29,9 +29,25 @@ pub data Line : Type 0 where
   gets : Step → PartAnswer → Line
   points : ℕ → ℕ → Line
 
--- the row as the part has it, from a state on: each step with the answer that it really gets, and where DATA really points
+-- the row as the part has it, from a state on: each step with the answer that it really gets, and where DATA really points;
+-- whatever a step of a row computes with is opened by its name
 unfoldable pub seen : Part → List ℕ → List Line → List Line
-unfolding if_then_else_ busyRefusal pastRefusal tooMany placeRefusal slaRefusal confRefusal dataRefusal selRefusal keptIf rewound atMost pointedAt overrunOf keyAfter resetsOf pointersIn registersIn countingOf endedIn blankOf recordedIn walkIn clearFrom currentAt standing countedIn frameAt frameIn settingAt tableAt registerAt statusPlace registerPlace placeOf weigh controlValue chstatusValue startOf fitting skippedOf sentFrom markFrom nackFlags endFlags endWalk startAsked stopAsked askedIn askOf beginningOf haltedOf reachOf moveOf nextOf maskedOf tickingOf tickTurn turnOf restOf endingOf fldAfter readRefusal readBy readOf asked controlled refusalOf writtenBy storedBy writeOf writeStore putOf putStore inRange zeros guarded writeAt storeAt readAt eventAt eventStore servedBy servedStore frameEnded passed stopped sentTo movedTo onward finished startedBy started cleared beganBy begun countedOne byteSent sendOn clocked ackAddress ackSending receiveOn received failed failedBy nacked turned turnStore channelAt ctrlAt writeTarget readTarget wireTarget targetOf ctrlRead wiped window putWindow beAfter oneStep oneBytes partServed partStored channelsIn partIn accepts partStep partBytes
+unfolding if_then_else_
+    busyRefusal pastRefusal tooMany placeRefusal slaRefusal confRefusal dataRefusal selRefusal keptIf rewound atMost pointedAt overrunOf keyAfter resetsOf
+    pointersIn registersIn countingOf endedIn blankOf recordedIn walkIn clearFrom currentAt standing countedIn frameAt frameIn
+    settingAt tableAt registerAt statusPlace registerPlace placeOf weigh controlValue chstatusValue
+    startOf fitting skippedOf sentFrom markFrom
+    nackFlags endFlags endWalk
+    startAsked stopAsked askedIn askOf beginningOf haltedOf reachOf moveOf nextOf maskedOf tickingOf tickTurn turnOf restOf endingOf fldAfter
+    readRefusal readBy readOf asked controlled refusalOf writtenBy storedBy writeOf writeStore putOf putStore
+    inRange
+    zeros guarded
+    writeAt storeAt readAt eventAt eventStore servedBy servedStore
+    frameEnded passed stopped sentTo movedTo onward finished startedBy started cleared beganBy begun countedOne byteSent sendOn clocked ackAddress ackSending receiveOn received failed failedBy nacked turned turnStore
+    channelAt ctrlAt writeTarget readTarget wireTarget targetOf
+    ctrlRead
+    wiped window putWindow
+    beAfter oneStep oneBytes partServed partStored channelsIn partIn accepts partStep partBytes
 seen p m [] = []
 seen p m (gets s r ∷ l) = gets s (partStep p m s .answer) ∷ seen (partStep p m s .part) (partBytes p m s) l
 seen p m (points c at ∷ l) = points c (chan p c .ptrs .buf) ∷ seen p m l
