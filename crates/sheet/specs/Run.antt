@@ -3,7 +3,7 @@ use Prim.Native.Nat.{ℕ}
 use mathlib.Core.List.{List, [], _∷_}
 use mathlib.Core.Path.{_≡_}
 use Rattle.laws.specs.Pick.{if_then_else_}
-use Rattle.rules.specs.Access.{busyRefusal, pastRefusal, tooMany, placeRefusal, slaRefusal, confRefusal, dataRefusal, selRefusal, keptIf, rewound, atMost, pointedAt, overrunOf, keyAfter, resetsOf}
+use Rattle.rules.specs.Access.{busyRefusal, pastRefusal, tooMany, placeRefusal, slaRefusal, confRefusal, selRefusal, keptIf, rewound, pointedAt, overrunOf, keyAfter, resetsOf}
 use Rattle.rules.specs.Range.{pointersIn, registersIn, countingOf, endedIn, blankOf, recordedIn, walkIn, clearFrom, currentAt, standing, countedIn, frameAt, frameIn}
 use Rattle.rules.specs.Registers.{settingAt, tableAt, registerAt, statusPlace, registerPlace, placeOf, weigh, controlValue, chstatusValue}
 use Rattle.rules.specs.Tables.{startOf, fitting, skippedOf, sentFrom, markFrom}
@@ -12,9 +12,9 @@ use Rattle.sequence.specs.Wires.{startAsked, stopAsked, askedIn, askOf, beginni
 use Rattle.sequence.specs.declared.wires.Action.{Action}
 use Rattle.channel.specs.Access.{readRefusal, readBy, readOf, asked, controlled, refusalOf, writtenBy, storedBy, writeOf, writeStore, putOf, putStore}
 use Rattle.channel.specs.Range.{inRange}
-use Rattle.channel.specs.State.{zeros, guarded}
+use Rattle.channel.specs.State.{guarded}
 use Rattle.channel.specs.Step.{writeAt, storeAt, readAt, eventAt, eventStore, servedBy, servedStore}
-use Rattle.channel.specs.Wires.{frameEnded, passed, stopped, sentTo, movedTo, onward, finished, startedBy, started, cleared, beganBy, begun, countedOne, byteSent, sendOn, clocked, ackAddress, ackSending, receiveOn, received, failed, failedBy, nacked, turned, turnStore}
+use Rattle.channel.specs.Wires.{frameEnded, passed, stopped, sentTo, movedTo, onward, finished, startedBy, started, cleared, beganBy, begun, countedOne, sendOn, clocked, ackAddress, receiveOn, received, failed, failedBy, nacked, turned, turnStore}
 use Rattle.part.specs.declared.map.Step.{Step}
 use Rattle.part.specs.declared.map.Step.the-variants.{Write, Read}
 use Rattle.part.specs.declared.state.Part.{Part}
@@ -22,7 +22,7 @@ use Rattle.part.specs.declared.state.PartAnswer.{PartAnswer}
 use Rattle.part.specs.Map.{channelAt, ctrlAt, writeTarget, readTarget, wireTarget, targetOf}
 use Rattle.part.specs.Registers.{ctrlRead}
 use Rattle.part.specs.State.{freshPart, wiped, quiet, onlyAt, chan, window, putWindow}
-use Rattle.part.specs.Step.{beAfter, oneStep, oneBytes, partServed, partStored, channelsIn, partIn, accepts, partStep, partBytes}
+use Rattle.part.specs.Step.{oneStep, oneBytes, partServed, partStored, channelsIn, partIn, accepts, partStep, partBytes}
 
 -- a line of a row: a step with the answer it gets, or the place in channel c's 4,352 bytes that its DATA points at
 pub data Line : Type 0 where
@@ -33,7 +33,7 @@ pub data Line : Type 0 where
 -- whatever a step of a row computes with is opened by its name
 unfoldable pub seen : Part → List ℕ → List Line → List Line
 unfolding if_then_else_
-    busyRefusal pastRefusal tooMany placeRefusal slaRefusal confRefusal dataRefusal selRefusal keptIf rewound atMost pointedAt overrunOf keyAfter resetsOf
+    busyRefusal pastRefusal tooMany placeRefusal slaRefusal confRefusal selRefusal keptIf rewound pointedAt overrunOf keyAfter resetsOf
     pointersIn registersIn countingOf endedIn blankOf recordedIn walkIn clearFrom currentAt standing countedIn frameAt frameIn
     settingAt tableAt registerAt statusPlace registerPlace placeOf weigh controlValue chstatusValue
     startOf fitting skippedOf sentFrom markFrom
@@ -41,13 +41,13 @@ unfolding if_then_else_
     startAsked stopAsked askedIn askOf beginningOf haltedOf reachOf moveOf nextOf maskedOf tickingOf tickTurn turnOf restOf endingOf fldAfter
     readRefusal readBy readOf asked controlled refusalOf writtenBy storedBy writeOf writeStore putOf putStore
     inRange
-    zeros guarded
+    guarded
     writeAt storeAt readAt eventAt eventStore servedBy servedStore
-    frameEnded passed stopped sentTo movedTo onward finished startedBy started cleared beganBy begun countedOne byteSent sendOn clocked ackAddress ackSending receiveOn received failed failedBy nacked turned turnStore
+    frameEnded passed stopped sentTo movedTo onward finished startedBy started cleared beganBy begun countedOne sendOn clocked ackAddress receiveOn received failed failedBy nacked turned turnStore
     channelAt ctrlAt writeTarget readTarget wireTarget targetOf
     ctrlRead
     wiped window putWindow
-    beAfter oneStep oneBytes partServed partStored channelsIn partIn accepts partStep partBytes
+    oneStep oneBytes partServed partStored channelsIn partIn accepts partStep partBytes
 seen p m [] = []
 seen p m (gets s r ∷ l) = gets s (partStep p m s .answer) ∷ seen (partStep p m s .part) (partBytes p m s) l
 seen p m (points c at ∷ l) = points c (chan p c .ptrs .buf) ∷ seen p m l
