@@ -1,0 +1,6 @@
+pub mod Promise
+pub mod Rules
+pub mod Sequence
+pub mod Channel
+pub mod Part
+pub mod Script
