@@ -31,6 +31,7 @@ askedEvent c e b =
     if eqb e 6 then Readable (Wire c Scl) else
     if eqb e 7 then Readable (Wire c Ill) else Unreadable
 
+-- the edge of number e
 unfoldable pub askedEdge : ℕ → Line
 askedEdge e = if eqb e 0 then Readable (Trigger Rising) else if eqb e 1 then Readable (Trigger Falling) else Unreadable
 
@@ -44,6 +45,7 @@ asked k x y z =
     if eqb k 3 then askedEdge x else
     if eqb k 4 then Readable Reset else Unreadable
 
+-- the step of the four bytes from a place on
 abbrev pub askedAt : List ℕ → ℕ → Line
 askedAt s at = asked (getD s at 0) (getD s (at + 1) 0) (getD s (at + 2) 0) (getD s (at + 3) 0)
 
@@ -57,6 +59,7 @@ linesOf (k ∷ x ∷ y ∷ z ∷ s) = asked k x y z ∷ linesOf s
 
 -- ---- the bytes of a step: every step has some
 
+-- the number of an event
 abbrev pub eventNumber : Event → ℕ
 eventNumber Ack = 0
 eventNumber Nack = 1
@@ -67,6 +70,7 @@ eventNumber Sda = 5
 eventNumber Scl = 6
 eventNumber Ill = 7
 
+-- the byte of an event, 0 where it has none
 abbrev pub eventByte : Event → ℕ
 eventByte Ack = 0
 eventByte Nack = 0
@@ -77,10 +81,12 @@ eventByte Sda = 0
 eventByte Scl = 0
 eventByte Ill = 0
 
+-- the number of an edge
 abbrev pub edgeNumber : Edge → ℕ
 edgeNumber Rising = 0
 edgeNumber Falling = 1
 
+-- the four bytes of a step, 0 where its kind uses none
 abbrev pub stepBytes : Step → List ℕ
 stepBytes (Write a v) = 0 ∷ a ∷ v ∷ 0 ∷ []
 stepBytes (Read a) = 1 ∷ a ∷ 0 ∷ 0 ∷ []
@@ -88,12 +94,14 @@ stepBytes (Wire c e) = 2 ∷ c ∷ eventNumber e ∷ eventByte e ∷ []
 stepBytes (Trigger edge) = 3 ∷ edgeNumber edge ∷ 0 ∷ 0 ∷ []
 stepBytes Reset = 4 ∷ 0 ∷ 0 ∷ 0 ∷ []
 
+-- the bytes of a list of steps
 abbrev pub stepsBytes : List Step → List ℕ
 stepsBytes [] = []
 stepsBytes (a ∷ l) = stepBytes a ++ stepsBytes l
 
 -- ---- an answer: its number, its value, and for each channel an action's kind and byte
 
+-- the kind of an action
 abbrev pub kindOf : Action → ℕ
 kindOf Nothing = 0
 kindOf (S sla) = 1
@@ -105,6 +113,7 @@ kindOf Np = 6
 kindOf (Nr sla) = 7
 kindOf P = 8
 
+-- the byte of an action, 0 where it has none
 abbrev pub byteOf : Action → ℕ
 byteOf Nothing = 0
 byteOf (S sla) = sla
@@ -116,6 +125,7 @@ byteOf Np = 0
 byteOf (Nr sla) = sla
 byteOf P = 0
 
+-- the eight bytes of an answer
 abbrev pub bytesOf : PartAnswer → List ℕ
 bytesOf a =
     a .number

@@ -16,22 +16,26 @@ use Rattle.script.specs.Answer.{noAnswer}
 use Rattle.runner.specs.declared.running.Ran.{Ran}
 use Rattle.runner.specs.Bytes.{linesOf, bytesOf}
 
+-- the state of a part and a memory
 abbrev pub start : Part → List ℕ → State
 start p m = record { part = p; memory = m }
 
--- a step is answered by the part's rules; what can't be read is answered no. 8, and leaves all
+-- a step is answered by the part's rules; what can't be read is answered no. 8
 abbrev pub answered : State → Line → PartAnswer
 answered s (Readable a) = thePart .answer s a
 answered s Unreadable = noAnswer
 
+-- and leaves all
 abbrev pub afterLine : State → Line → State
 afterLine s (Readable a) = thePart .after s a
 afterLine s Unreadable = s
 
+-- the channel that a step is of, and 3 where it is one of the whole part or can't be read
 abbrev pub ownerOfLine : Line → ℕ
 ownerOfLine (Readable a) = thePart .owner a
 ownerOfLine Unreadable = 3
 
+-- the machine of a run: the part, with an answer to what can't be read
 abbrev pub theRunner : Machine State Line PartAnswer
 theRunner = record { answer = answered; after = afterLine; owner = ownerOfLine }
 
@@ -44,16 +48,20 @@ bytesOfLog (x ∷ l) = bytesOf (x .1) ++ bytesOfLog l
 unfoldable pub fitting : ℕ → ℕ → Bool
 fitting steps answers = if eqb (steps % 4) 0 then (if eqb (answers % 8) 0 then eqb (steps / 4) (answers / 8) else false) else false
 
--- what a run leaves: the part, the 13,056 bytes, and every byte of the answers; nothing is touched where the lengths do not fit
+-- ---- what a run leaves; nothing is touched where the lengths do not fit
+
+-- the part, and that it was run
 unfoldable pub ranOf : Part → List ℕ → List ℕ → List ℕ → Ran
 ranOf p m s a =
     if fitting (length s) (length a)
     then (record { part = ends theRunner (start p m) (linesOf s) .part; done = true })
     else (record { part = p; done = false })
 
+-- the 13,056 bytes
 unfoldable pub ranMemory : Part → List ℕ → List ℕ → List ℕ → List ℕ
 ranMemory p m s a = if fitting (length s) (length a) then ends theRunner (start p m) (linesOf s) .memory else m
 
+-- every byte of the answers
 unfoldable pub ranAnswers : Part → List ℕ → List ℕ → List ℕ → List ℕ
 ranAnswers p m s a = if fitting (length s) (length a) then bytesOfLog (log theRunner (start p m) (linesOf s)) else a
 
