@@ -1,4 +1,9 @@
 // The script program: steps on standard input, a line each, and a line of answer for each on standard output, over one part.
+ghost use mathlib.Core.Path.{_≡_};
+ghost use mathlib.Core.Bool.{false};
+ghost use Rattle.script.specs.Answer.{noAnswer};
+ghost use Rattle.script.specs.declared.reading.Line.the-variants.{Unreadable};
+ghost use Rattle.bench.specs.Keeping.{withByte, readOf, nextOf};
 use libc::STDIN_FILENO;
 use libc::STDOUT_FILENO;
 use part::Part;
@@ -23,7 +28,9 @@ struct Bench {
 
 // ---- a line
 
-fn no_line() -> Start {
+fn no_line() -> Start
+    ensures { λ r. ⌜ r .len ≡ 0 ⌝ }
+{
     Start {
         bytes: [0; 12],
         len: 0,
@@ -31,25 +38,32 @@ fn no_line() -> Start {
 }
 
 // One more byte of the line; past the twelfth it makes no difference.
-fn with_byte(line: Start, b: u8) -> Start {
-    let mut next = line;
+fn with_byte(line: Start, b: u8) -> Start
+    ensures { λ r. ⌜ r ≡ withByte line b ⌝ }
+{
     let n = line.len;
     if n < 12 {
+        let mut next = line;
         next.bytes[n] = b;
         next.len = n + 1;
+        return next;
     }
-    next
+    line
 }
 
-fn read(bytes: [u8; 12], n: usize) -> Line {
+fn read(bytes: [u8; 12], n: usize) -> Line
+    ensures { λ r. ⌜ r ≡ readOf bytes n ⌝ }
+{
     if n <= 12 {
         return script::read_line(&bytes[..n]);
     }
     Line::Unreadable
 }
 
-// What a line does; one that can't be read leaves the part.
-fn perform(part: Part, mem: &mut [u8], line: Start) -> PartStepped {
+// What a line does. One that can't be read is no. 8 and leaves the part.
+fn perform(part: Part, mem: &mut [u8], line: Start) -> PartStepped
+    ensures { λ r. ⌜ (readOf (line .bytes) (line .len) ≡ Unreadable → (r .part ≡ part) × (r .answer ≡ noAnswer) × (now (mem .exit) ≡ now (mem .entry))) ⌝ }
+{
     let bytes = line.bytes;
     let n = line.len;
     match read(bytes, n) {
@@ -63,26 +77,36 @@ fn perform(part: Part, mem: &mut [u8], line: Start) -> PartStepped {
 
 // ---- the output
 
-// Writes the bytes that wait, and answers whether that went well.
-fn write_first(out: &[u8], n: usize) -> bool {
-    if n <= out.len() {
-        return io::write_all(STDOUT_FILENO, &out[..n]);
+// Writes the first n bytes, unless a write failed before, and answers whether that went well.
+fn write_first(out: &[u8], n: usize, running: bool) -> bool {
+    if !running {
+        return false;
     }
-    false
+    if out.len() < n {
+        return false;
+    }
+    io::write_all(STDOUT_FILENO, &out[..n])
 }
 
-fn flush(mut b: Bench, out: &[u8]) -> Bench {
+// Writes what waits. A write that fails ends the program.
+fn flush(mut b: Bench, out: &[u8]) -> Bench
+    ensures { λ r. ⌜ (r .waiting ≡ 0) × (r .part ≡ b .part) × (r .step ≡ b .step) × (r .line ≡ b .line) ⌝ }
+{
     let n = b.waiting;
-    if !write_first(out, n) {
-        b.running = false;
-    }
+    let written = write_first(out, n, b.running);
     b.waiting = 0;
+    b.running = written;
     b
 }
 
-// Makes room for a line where there may be none.
-fn make_room(b: Bench, out: &[u8]) -> Bench {
-    if b.waiting < 65400 {
+// A line asks for 80 bytes, and the output has 65,536.
+const LAST_PLACE: usize = 65456;
+
+// Makes room for a line where there is none.
+fn make_room(b: Bench, out: &[u8]) -> Bench
+    ensures { λ r. ⌜ (r .part ≡ b .part) × (r .step ≡ b .step) × (r .line ≡ b .line) ⌝ }
+{
+    if b.waiting <= LAST_PLACE {
         return b;
     }
     flush(b, out)
@@ -91,7 +115,9 @@ fn make_room(b: Bench, out: &[u8]) -> Bench {
 // ---- a step a line
 
 // The number of the next step. It stays at the largest one, which no run reaches.
-fn next_number(step: u64) -> u64 {
+fn next_number(step: u64) -> u64
+    ensures { λ r. ⌜ r ≡ nextOf step ⌝ }
+{
     if step == u64::MAX {
         return step;
     }
@@ -99,7 +125,9 @@ fn next_number(step: u64) -> u64 {
 }
 
 // Answers the line that has been read.
-fn answer_line(b: Bench, mem: &mut [u8], out: &mut [u8]) -> Bench {
+fn answer_line(b: Bench, mem: &mut [u8], out: &mut [u8]) -> Bench
+    ensures { λ r. ⌜ (r .step ≡ nextOf (b .step)) × (r .line .len ≡ 0) ⌝ }
+{
     let mut next = make_room(b, out);
     let part = next.part;
     let line = next.line;
@@ -135,7 +163,9 @@ fn answer_block(b: Bench, block: &[u8], mem: &mut [u8], out: &mut [u8]) -> Bench
     flush(now, out)
 }
 
-fn stop(b: Bench, out: &[u8]) -> Bench {
+fn stop(b: Bench, out: &[u8]) -> Bench
+    ensures { λ r. ⌜ r .running ≡ false ⌝ }
+{
     let mut last = flush(b, out);
     last.running = false;
     last

@@ -6,7 +6,6 @@ use lib.Dec.{eqb}
 use Rattle.laws.specs.Pick.{if_then_else_}
 use Rattle.rules.specs.declared.state.Flags.{Flags}
 use Rattle.rules.specs.Registers.{activeOf, bitOf, weigh}
-use Rattle.channel.specs.declared.state.Channel.{Channel}
 use Rattle.part.specs.declared.map.Ctrl.{Ctrl}
 use Rattle.part.specs.declared.map.Ctrl.the-variants.{Ctrlstatus, Ctrlintmsk, Reserved, DeviceId, Ctrlpreset, Nothing, Ctrlrdy}
 use Rattle.part.specs.declared.state.Part.{Part}

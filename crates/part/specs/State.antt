@@ -1,6 +1,6 @@
 -- Words for the record of the part: the reset state, what a step answers, the record with a part replaced, a channel's record and its window.
 use Prim.Native.Nat.{ℕ, _*_}
-use mathlib.Core.Bool.{Bool, true, false}
+use mathlib.Core.Bool.{Bool, false}
 use mathlib.Core.List.{List, [], _∷_}
 use lib.ListN.{getD, set, replicate}
 use Rattle.laws.specs.Windows.{cut, put}

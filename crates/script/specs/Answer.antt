@@ -19,7 +19,7 @@ pub record Put (l : List ℕ) (at : ℕ) (text : List ℕ) (r : ℕ) (m : List �
   pub place : r ≡ at + length text
   pub bytes : m ≡ sets l at text
 
--- at most n decimal digits, the last one last; 0 stands at 48
+-- the decimal digits of x, the fewest, where n are enough; 0 stands at 48
 unfoldable pub digitsOf : ℕ → ℕ → List ℕ
 digitsOf zero x = []
 digitsOf (suc n) x = (if ltb x 10 then [] else digitsOf n (x / 10)) ++ ((48 + x % 10) ∷ [])
@@ -52,6 +52,7 @@ busyOf P = true
 unfoldable pub textIf : Bool → List ℕ → List ℕ
 textIf b text = if b then text else []
 
+-- one byte where a test holds
 abbrev pub onlyIf : Bool → ℕ → List ℕ
 onlyIf b x = textIf b (x ∷ [])
 
@@ -59,26 +60,32 @@ onlyIf b x = textIf b (x ∷ [])
 abbrev pub letters : Action → List ℕ
 letters a = take (textOf a .len) (textOf a .bytes)
 
--- channel, colon, action; a comma (44) before it where an action stands before it
+-- channel, colon (58), action without spaces; a comma (44) before it if there is an action of a lower channel
 abbrev pub entryOf : Bool → ℕ → Action → List ℕ
 entryOf later c a = onlyIf later 44 ++ (((48 + c) ∷ 58 ∷ []) ++ letters a)
 
+-- a channel that does nothing is left out
 unfoldable pub actionOf : Bool → ℕ → Action → List ℕ
 actionOf later c a = textIf (busyOf a) (entryOf later c a)
 
+-- the action of channel i
 abbrev pub actionAt : List Act → ℕ → Action
 actionAt l i = getD l i (record { action = Nothing }) .action
 
+-- one or the other
 abbrev pub orOf : Bool → Bool → Bool
 orOf a b = if a then a else b
 
--- the actions, lowest channel first, or `-` (45)
+-- the actions of channels 0, 1 and 2, joined by commas, lowest channel first, or `-` (45)
+abbrev pub joined : Action → Action → Action → List ℕ
+joined a b c =
+    actionOf false 0 a
+    ++ (actionOf (busyOf a) 1 b
+    ++ (actionOf (orOf (busyOf a) (busyOf b)) 2 c
+    ++ onlyIf (not (orOf (orOf (busyOf a) (busyOf b)) (busyOf c))) 45))
+
 unfoldable pub actionsOf : List Act → List ℕ
-actionsOf l =
-    actionOf false 0 (actionAt l 0)
-    ++ (actionOf (busyOf (actionAt l 0)) 1 (actionAt l 1)
-    ++ (actionOf (orOf (busyOf (actionAt l 0)) (busyOf (actionAt l 1))) 2 (actionAt l 2)
-    ++ onlyIf (not (orOf (orOf (busyOf (actionAt l 0)) (busyOf (actionAt l 1))) (busyOf (actionAt l 2)))) 45))
+actionsOf l = joined (actionAt l 0) (actionAt l 1) (actionAt l 2)
 
 -- step number, answer number, value, INT, actions, and LF
 unfoldable pub answerLine : ℕ → PartAnswer → Bool → List ℕ
@@ -90,6 +97,7 @@ answerLine step reply int =
     ++ (actionsOf (reply .actions)
     ++ ascii "\n"))))
 
+-- the header
 abbrev pub header : List ℕ
 header = ascii "step code value int actions\n"
 

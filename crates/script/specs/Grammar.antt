@@ -5,7 +5,6 @@ use mathlib.Core.List.{List, [], _∷_}
 use lib.Dec.{eqb, leb, ltb}
 use lib.ListN.{getD}
 use Rattle.laws.specs.Pick.{if_then_else_}
-use Rattle.part.specs.declared.map.Step.{Step}
 use Rattle.part.specs.declared.map.Step.the-variants.{Write, Read, Wire, Trigger, Reset}
 use Rattle.sequence.specs.declared.wires.Edge.the-variants.{Rising, Falling}
 use Rattle.sequence.specs.declared.wires.Event.{Event}
@@ -22,10 +21,11 @@ isHex b = if ltb b 58 then leb 48 b else if ltb b 71 then leb 65 b else false
 unfoldable pub hexOf : ℕ → ℕ
 hexOf b = if ltb b 48 then 0 else if ltb b 58 then b - 48 else if ltb b 65 then 0 else if ltb b 71 then b - 55 else 0
 
--- the value of the digit at place i of a line, and of the two digits from there
+-- the value of the digit at place i of a line
 abbrev pub digitAt : List ℕ → ℕ → ℕ
 digitAt l i = hexOf (getD l i 0)
 
+-- the byte of the two digits from place i
 abbrev pub byteAt : List ℕ → ℕ → ℕ
 byteAt l i = 16 * digitAt l i + digitAt l (i + 1)
 
@@ -40,10 +40,11 @@ fitting [] (b ∷ l) = false
 fitting (letter ∷ form) [] = false
 fitting (letter ∷ form) (b ∷ l) = if suiting letter b then fitting form l else false
 
--- an event of channel c, the digit at place 2
+-- `E c ..`: an event of channel c
 abbrev pub wireLine : List ℕ → Event → Line
 wireLine l e = Readable (Wire (digitAt l 2) e)
 
+-- `E c SDA`, `E c SCL`, `E c ILL`; any other line can't be read
 unfoldable pub faultLine : List ℕ → Line
 faultLine l =
     if fitting (ascii "E c SDA") l then wireLine l Sda
@@ -51,12 +52,14 @@ faultLine l =
     else if fitting (ascii "E c ILL") l then wireLine l Ill
     else Unreadable
 
+-- `E c TICK`, `E c STOP`
 unfoldable pub clockLine : List ℕ → Line
 clockLine l =
     if fitting (ascii "E c TICK") l then wireLine l Tick
     else if fitting (ascii "E c STOP") l then wireLine l Stop
     else faultLine l
 
+-- `E c ACK`, `E c NACK`, `E c BYTE bb`
 unfoldable pub eventLine : List ℕ → Line
 eventLine l =
     if fitting (ascii "E c ACK") l then wireLine l Ack
@@ -64,13 +67,14 @@ eventLine l =
     else if fitting (ascii "E c BYTE bb") l then wireLine l (Byte (byteAt l 9))
     else clockLine l
 
+-- `T R` or `T F`
 unfoldable pub edgeLine : List ℕ → Line
 edgeLine l =
     if fitting (ascii "T R") l then Readable (Trigger Rising)
     else if fitting (ascii "T F") l then Readable (Trigger Falling)
     else eventLine l
 
--- a step a line: a write, a read, the hardware reset, an edge of the trigger, an event; any other line can't be read
+-- a step a line: `W aa dd`, `R aa`, `X` (hardware reset), or one of the above
 unfoldable pub lineOf : List ℕ → Line
 lineOf l =
     if fitting (ascii "W aa dd") l then Readable (Write (byteAt l 2) (byteAt l 5))

@@ -1,12 +1,8 @@
 // The lines that the script program prints: the header, and a line for each answer.
 ghost use mathlib.Core.Path.{_≡_};
-ghost use mathlib.Core.Bool.{false, not};
 ghost use Prim.Native.Nat.{_+_, _<_, _≤_};
-ghost use lib.Dec.{leb};
 ghost use lib.ListN.{length, take, drop};
-ghost use Rattle.laws.specs.Pick.{if_then_else_};
-ghost use Rattle.script.specs.Ascii.{ascii};
-ghost use Rattle.script.specs.Answer.{Put, decimalOf, levelOf, middleOf, busyOf, letters, onlyIf, entryOf, actionOf, actionsOf, answerLine, header, roomy, textIf, noAnswer};
+ghost use Rattle.script.specs.Answer.{Put, decimalOf, levelOf, middleOf, busyOf, onlyIf, entryOf, actionOf, orOf, actionsOf, answerLine, header, roomy, textIf, noAnswer};
 use part::Act;
 use part::PartAnswer;
 use sequence::Action;
@@ -105,7 +101,7 @@ fn busy(a: Action) -> bool
 }
 
 fn either(a: bool, b: bool) -> bool
-    ensures { λ r. ⌜ r ≡ (if a then a else b) ⌝ }
+    ensures { λ r. ⌜ r ≡ orOf a b ⌝ }
 {
     if a { a } else { b }
 }

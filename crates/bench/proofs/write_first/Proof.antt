@@ -9,7 +9,8 @@ pub write-first-spec : {M : Type 1} → statement M
 write-first-spec =
     tie.close
     (tie.spec
-    (λ c. sym (length-take-le (c .before .before .before .args .n) (c .before .before .before .args .out .now) (search needs)))
     (λ c. search needs)
+    (λ c. search needs)
+    (λ c. sym (length-take-le (c .before .before .before .before .args .n) (c .before .before .before .before .args .out .now) (search needs)))
     (λ c. search needs)
     (λ c. search needs))

@@ -1,20 +1,17 @@
 -- No step of the part leads out of range, and a step keeps the number of bytes.
 use Prim.Native.Nat.{ℕ, zero, suc, _/_, _%_, _<_}
-use mathlib.Core.Bool.{Bool, true, false}
+use mathlib.Core.Bool.{Bool, true}
 use mathlib.Core.List.{List, [], _∷_, map}
-use mathlib.Core.Path.{_≡_, refl, sym, _∙_, ap}
+use mathlib.Core.Path.{_≡_, refl, sym, _∙_}
 use native.Mathlib.Omega.{arith}
 use borrow.Author.Tests.{eq-eqb}
-use lib.Dec.{ltb, eqb}
 use lib.ListN.{length, getD, set, length-replicate}
-use Rattle.laws.specs.Pick.{if_then_else_}
 use Rattle.laws.specs.Cases.{pick-holds, both, with}
 use Rattle.sequence.specs.declared.wires.Edge.{Edge}
 use Rattle.channel.specs.declared.state.Channel.{Channel}
 use Rattle.channel.specs.declared.step.Op.{Op}
 use Rattle.channel.specs.Range.{inRange}
 use Rattle.channel.specs.Step.{servedBy, servedStore}
-use Rattle.channel.specs.State.{fresh}
 use Rattle.channel.specs.Laws.Kept.{serves-in-range, fresh-in-range, served-length}
 use Rattle.channel.specs.Laws.Frames.{trigger-in-range}
 use Rattle.part.specs.declared.map.Ctrl.{Ctrl}

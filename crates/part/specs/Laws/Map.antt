@@ -4,11 +4,9 @@ use mathlib.Core.Path.{_≡_, subst}
 use borrow.Author.Tests.{ltb-true}
 use lib.Dec.{ltb}
 use Rattle.laws.specs.Cases.{pick-holds}
-use Rattle.sequence.specs.declared.wires.Event.{Event}
 use Rattle.channel.specs.declared.step.Op.{Op}
 use Rattle.part.specs.declared.map.Step.{Step}
 use Rattle.part.specs.declared.map.Step.the-variants.{Write, Read, Wire, Trigger, Reset}
-use Rattle.part.specs.declared.map.Target.{Target}
 use Rattle.part.specs.declared.map.Target.the-variants.{One}
 use Rattle.part.specs.Map.{channelAt, writeTarget, readTarget, wireTarget, targetOf, InPart}
 

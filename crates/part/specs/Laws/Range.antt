@@ -1,6 +1,6 @@
 -- What a part in range says of each of its channels, and a step by whether it is refused by no. 9.
 use Prim.Native.Nat.{ℕ, zero, suc, _<_}
-use mathlib.Core.Bool.{Bool, true, false}
+use mathlib.Core.Bool.{true, false}
 use mathlib.Core.List.{List, [], _∷_}
 use mathlib.Core.Path.{_≡_}
 use native.Mathlib.Nat.{not-suc-le-zero, le-of-suc-le-suc}

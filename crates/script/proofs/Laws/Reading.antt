@@ -1,24 +1,16 @@
 -- A line against a form, one law for each way that the loop of `fits` ends or goes on; and what stands past a line's end.
 use mathlib.Core.Bool.{Bool, true, false}
-use mathlib.Core.List.{List, [], _∷_}
-use mathlib.Core.Path.{_≡_, refl, sym, _∙_, ap}
-use Prim.Native.Nat.{ℕ, suc, _+_, _<_, _≤_}
+use mathlib.Core.List.{List}
+use mathlib.Core.Path.{_≡_, sym, _∙_}
+use Prim.Native.Nat.{ℕ, _+_, _<_, _≤_}
 use native.Mathlib.Numerals.{add-one}
 use native.Mathlib.Omega.{arith}
 use borrow.Author.Needs.{needs}
 use lib.ListN.{length, getD, drop, drop-of-length-le, List·getD-eq-default}
 use lib.Seq.{drop-cons}
 use Rattle.laws.specs.Pick.{if_then_else_}
-use Rattle.laws.specs.Cases.{pick-holds}
 use Rattle.script.specs.Grammar.{hexOf, digitAt, suiting, fitting}
-
-pub fit-length : (f l : List ℕ) → (length f ≡ length l → ⊥) → false ≡ fitting f l
-unfolding fitting if_then_else_
-fit-length [] [] h = absurd (h refl)
-fit-length [] (b ∷ l) h = refl
-fit-length (a ∷ f) [] h = refl
-fit-length (a ∷ f) (b ∷ l) h =
-    pick-holds (λ (r : Bool). false ≡ r) (suiting a b) (λ _. fit-length f l (λ e. h (ap suc e))) (λ _. refl)
+use Rattle.script.specs.Laws.Grammar.{fit-length}
 
 pub fit-all : (f l : List ℕ) (i : ℕ) → length f ≡ length l → fitting f l ≡ fitting (drop i f) (drop i l) → length f ≤ i → true ≡ fitting f l
 unfolding fitting

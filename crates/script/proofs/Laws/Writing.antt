@@ -12,7 +12,7 @@ use lib.Seq.{sets, drop-cons, take-all}
 use borrow.Author.Tests.{le-leb, lt-leb, lt-ltb, le-ltb, leb-true}
 use Rattle.laws.specs.Pick.{if_then_else_}
 use Rattle.laws.specs.Cases.{flag-true, flag-false}
-use Rattle.script.specs.Answer.{Put, textIf, digitsOf, decimalOf, roomy}
+use Rattle.script.specs.Answer.{Put, textIf, digitsOf, roomy}
 
 sets-append : (l xs ys : List ℕ) (i : ℕ) → sets l i (xs ++ ys) ≡ sets (sets l i xs) (i + length xs) ys
 sets-append l [] ys i = let e : i + 0 ≡ i = omega arith in rw e
