@@ -4,3 +4,5 @@ pub mod Sequence
 pub mod Channel
 pub mod Part
 pub mod Script
+pub mod Lent
+pub mod Runner

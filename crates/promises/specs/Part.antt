@@ -24,5 +24,8 @@ new-once = no-second (λ r h. h)
 pub in-range-once : (self : Part) → Once Bool (λ r. r ≡ partIn self)
 in-range-once self = no-second (λ r h. h)
 
+pub advance-once : (self : Part) (mem : List ℕ) (s : Step) → Once (PartStepped × List ℕ) (λ (r, mem′). (r ≡ partStep self mem s) × (mem′ ≡ partBytes self mem s))
+advance-once self mem s = no-second (λ o h. both (h .0) (h .1))
+
 pub step-once : (self : Part) (mem : List ℕ) (s : Step) → Once (PartStepped × List ℕ) (λ (r, mem′). (r ≡ partStep self mem s) × (mem′ ≡ partBytes self mem s))
 step-once self mem s = no-second (λ o h. both (h .0) (h .1))

@@ -12,3 +12,7 @@ no-second says r r′ p p′ = says r p ∙ sym (says r′ p′)
 -- an outcome of two parts, what is returned and the bytes that are left
 pub both : {A B : Type 0} {o : A × B} {x : A} {y : B} → o .0 ≡ x → o .1 ≡ y → o ≡ (x, y)
 both p q = λ i. (p i, q i)
+
+-- of three: what is returned, and two that were lent
+pub three : {A B C : Type 0} {o : A × B × C} {x : A} {y : B} {z : C} → o .0 ≡ x → o .1 ≡ y → o .2 ≡ z → o ≡ (x, y, z)
+three p q r = λ i. (p i, q i, r i)
