@@ -92,6 +92,7 @@ struct plan {
     int held;               /* has done so in this Waiting */
     int grow;               /* in Waiting, the count becomes n */
     int full;               /* all data are written and read back */
+    int together;           /* no other line between those that wait */
     unsigned again;         /* starts with the same tables */
     char queue[QUEUE][LINE];
     size_t first, last;     /* lines still to go out */
@@ -397,6 +398,62 @@ static void plan_grow(unsigned c)
     push_start(c);
 }
 
+/* The buffer's last byte on the wires: all but the last transaction refused,
+ * the last one fed to its end. */
+static void plan_last(unsigned c)
+{
+    struct plan *pl = &plans[c];
+    unsigned n = one_in(2) ? 18 : ENTRIES, length = n == 18 ? 17 : 68;
+    fill(pl, n, 0);
+    memset(pl->len, n == 18 ? 255 : 68, sizeof pl->len);
+    pl->len[n - 1] = (uint8_t)length;
+    pl->te = 0;
+    pl->framecnt = 1;
+    pl->intmsk = 0x30;
+    pl->again = 0;
+    pl->together = !one_in(4);
+    push_tables(c);
+    push_manner(c);
+    push_write(c, R_TRANSEL, n - 1);
+    push_write(c, R_TRANOFS, length - 1);
+    push_data(c, 1);
+    push_write(c, R_CONTROL, STA);
+    for (unsigned t = 0; t + 1 < n; t++)
+        push_event(c, "NACK");
+    push_read_at(c, 64 * c + n - 1);
+    push_event(c, "ACK");
+    for (unsigned i = 0; i < length; i++)
+        if (pl->sla[n - 1] & 1)
+            push_byte(c);
+        else
+            push_event(c, "ACK");
+    push_read_at(c, 64 * c + n - 1);
+    push_event(c, "STOP");
+    push_bytecount_reads(c, n + 1);
+    push_write(c, R_TRANOFS, length - 1);
+    push_read(c, R_DATA);
+    push_read(c, R_DATA);
+}
+
+/* Many frames that end at once: the largest FRAMECNTs */
+static void plan_frames(unsigned c)
+{
+    struct plan *pl = &plans[c];
+    fill(pl, 1, 0);
+    pl->sla[0] |= 1;
+    pl->te = 0;
+    pl->framecnt = (uint8_t)(one_in(2) ? 255 : between(100, 255));
+    pl->again = 0;
+    pl->together = !one_in(4);
+    push_tables(c);
+    push_manner(c);
+    push_write(c, R_CONTROL, STA);
+    for (unsigned i = 1; i < pl->framecnt; i++)
+        push_event(c, "TICK");
+    push_read(c, R_CHSTATUS);
+    push_read(c, R_CONTROL);
+}
+
 /* Count 0, and what a start does with it */
 static void plan_count_zero(unsigned c)
 {
@@ -448,6 +505,12 @@ static void plan_pointer_past(unsigned c)
         push_write(c, R_TRANCONFIG, pl->len[t]);
     push_read(c, R_DATA);
     push_manner(c);
+    if (one_in(2)) {    /* a short frame runs meanwhile */
+        push_write(c, R_CONTROL, AIPTRRST);
+        push_write(c, R_TRANCONFIG, between(1, 3));
+        push_start(c);
+        pl->together = !one_in(4);
+    }
     push_write(c, R_CONTROL, AIPTRRST | below(256));
     push_read(c, R_CONTROL);
     push_read(c, R_DATA);
@@ -558,13 +621,16 @@ static void push_second_5a(unsigned c)
 static void plan_reset(unsigned c)
 {
     fill(&plans[c], 1, 3);
+    plans[c].together = !one_in(4);
     if (one_in(4))
         push_write(c, R_PRESET, 0xA5);
     switch (below(8)) {
-    case 0:
+    case 0: case 3:
         push_keys(c, R_CTRLPRESET);
         break;
     case 1:
+        if (one_in(2))
+            push_write_at(c, R_CTRLPRESET, 0xA5);
         push(&plans[c], "X");
         break;
     case 2:     /* both keys at once */
@@ -624,6 +690,7 @@ static void new_plan(unsigned c)
     choose_manner(&plans[c]);
     plans[c].full = 0;
     plans[c].grow = 0;
+    plans[c].together = 0;
     plans[c].again = between(0, 4);
     if (chorus > 0)
         k = below(67);
@@ -637,8 +704,10 @@ static void new_plan(unsigned c)
         plan_exact(c);
     else if (k < 72)
         plan_grow(c);
+    else if (k < 73)
+        plan_last(c);
     else if (k < 74)
-        plan_count_zero(c);
+        one_in(3) ? plan_frames(c) : plan_count_zero(c);
     else if (k < 79)
         plan_data_edge(c);
     else if (k < 82)
@@ -777,6 +846,14 @@ static void feed_waiting(unsigned c)
         push_new_count(c);
         return;
     }
+    if (one_in(60)) {   /* the pointer at 65: no. 3 */
+        pl->together = 1;
+        push_write(c, R_CONTROL, AIPTRRST);
+        for (unsigned i = 0; i < ENTRIES + 1; i++)
+            push_read(c, R_TRANCONFIG);
+        push_write(c, R_TRANCONFIG, below(70));
+        return;
+    }
     if (one_in(12)) {   /* not awaited, or the other edge */
         push_event(c, one_in(2) ? "STOP" : "SDA");
         push_trigger(c, 0);
@@ -846,6 +923,7 @@ static void advance(unsigned c)
         if (pl->hold > 0)
             return;
         pl->first = pl->last = 0;
+        pl->together = 0;
         if (pl->stage == NEW) {
             new_plan(c);
         } else if (part.ch[c].phase != IDLE) {
@@ -1000,6 +1078,10 @@ int main(int argc, char **argv)
     burst = bursts[seed / 5 % 3];
     reset_part(&part);
     while (made < wanted) {
+        if (plans[c].together && plans[c].first < plans[c].last) {
+            advance(c);
+            continue;
+        }
         if (per_mille(rate)) {
             noise();
             continue;
