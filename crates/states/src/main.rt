@@ -1,16 +1,682 @@
-// Records from outside: in range, and out of it by one clause of document 01's rule alone. Each is handed to the single channel's step, to the part's step
-// as each of its channels, and to the part's hardware reset. A printed line is one record: what is special about it, and for each of these calls the
-// answer's number and whether the whole record and every byte of the memory were left as they were. Then calls of every kind, and memories of other lengths.
-ghost use Prim.Native.Nat.{_≤_};
+// Records from outside: in range, and out of it by one clause of document 01's rule alone. A row of the table alters a record in range and has a step; the
+// record is handed to the single channel's step, to the part's step as each of its channels, and to the part's hardware reset. A printed line is one row:
+// the alterations, the step, and for each of these calls the answer's number and whether the whole record and every byte of the memory were left.
 use channel::Channel;
 use channel::Op;
+use channel::Stepped;
 use libc::STDOUT_FILENO;
 use part::Part;
+use part::PartStepped;
 use part::Step;
 use rules::Phase;
 use rules::Walk;
 use sequence::Edge;
 use sequence::Event;
+
+// What a row alters: a channel; BE, CTRLINTMSK and the key of the part that has it; the number by which the channel is called; how many bytes are lent.
+struct Case {
+    channel: Channel,
+    be: bool,
+    mask: u8,
+    key: bool,
+    number: u8,
+    of_channel: usize,
+    of_part: usize,
+}
+
+// ---- the table: in each number a kind of alteration, or of step, and its value; a step ends a row
+
+const ENTRIES: usize = 634;
+
+const TABLE: [u32; 634] = [
+    // the pointers
+    0x02_000041,
+    0x20_0000C3,
+    0x02_000040,
+    0x20_0000C3,
+    0x04_000041,
+    0x20_0000C8,
+    0x04_000040,
+    0x20_0000C8,
+    0x01_000042,
+    0x20_0000C4,
+    0x01_000041,
+    0x20_0000C4,
+    0x03_001101,
+    0x20_0000C5,
+    0x03_001100,
+    0x20_0000C5,
+    // entry 0 of TRANCONFIG, TRANSEL, the kept bits of INTMSK and CTRLINTMSK
+    0x0B_000041,
+    0x1F_00C040,
+    0x0B_000040,
+    0x1F_00C040,
+    0x06_000040,
+    0x1F_00C701,
+    0x06_00003F,
+    0x1F_00C701,
+    0x05_0000F9,
+    0x20_0000C2,
+    0x05_0000F5,
+    0x20_0000C2,
+    0x05_0000F3,
+    0x20_0000C2,
+    0x05_0000F1,
+    0x20_0000C2,
+    0x17_0000C7,
+    0x20_0000C2,
+    0x17_0000A7,
+    0x20_0000C2,
+    0x17_000097,
+    0x20_0000C2,
+    0x17_00008F,
+    0x20_0000C2,
+    0x17_000087,
+    0x20_0000C2,
+    // the number of ended frames
+    0x08_000003,
+    0x10_000003,
+    0x0F_000100,
+    0x21_000000,
+    0x08_000003,
+    0x10_000002,
+    0x0F_000100,
+    0x21_000000,
+    0x08_000003,
+    0x10_000003,
+    0x0F_000200,
+    0x21_000000,
+    0x08_000003,
+    0x10_000002,
+    0x0F_000200,
+    0x21_000000,
+    0x08_000003,
+    0x10_000003,
+    0x0F_000300,
+    0x0A_000041,
+    0x21_000002,
+    0x08_000003,
+    0x10_000002,
+    0x0F_000300,
+    0x0A_000041,
+    0x21_000002,
+    0x08_000003,
+    0x10_000003,
+    0x0F_000400,
+    0x21_000004,
+    0x08_000003,
+    0x10_000002,
+    0x0F_000400,
+    0x21_000004,
+    0x08_000003,
+    0x10_000003,
+    0x0F_000500,
+    0x21_000006,
+    0x08_000003,
+    0x10_000002,
+    0x0F_000500,
+    0x21_000006,
+    0x08_000003,
+    0x10_000001,
+    0x0F_000000,
+    0x21_000007,
+    0x08_000003,
+    0x10_000000,
+    0x0F_000000,
+    0x21_000007,
+    0x07_000001,
+    0x08_000003,
+    0x10_000001,
+    0x0F_000500,
+    0x21_000006,
+    0x07_000001,
+    0x08_000003,
+    0x10_000000,
+    0x0F_000500,
+    0x21_000006,
+    0x08_000000,
+    0x10_000001,
+    0x0F_000500,
+    0x21_000006,
+    0x08_000000,
+    0x10_000000,
+    0x0F_000500,
+    0x21_000006,
+    0x08_000001,
+    0x10_000001,
+    0x0F_000500,
+    0x21_000003,
+    0x08_000001,
+    0x10_000000,
+    0x0F_000500,
+    0x21_000003,
+    // a stop, FE or an error end recorded
+    0x11_000001,
+    0x0F_000000,
+    0x21_000007,
+    0x11_000001,
+    0x0F_000100,
+    0x21_000000,
+    0x11_000001,
+    0x0F_000200,
+    0x21_000000,
+    0x11_000001,
+    0x0F_000300,
+    0x0A_000041,
+    0x21_000002,
+    0x11_000001,
+    0x0F_000400,
+    0x21_000004,
+    0x11_000001,
+    0x0F_000500,
+    0x21_000006,
+    0x12_000001,
+    0x0F_000000,
+    0x21_000007,
+    0x12_000001,
+    0x0F_000100,
+    0x21_000000,
+    0x12_000001,
+    0x0F_000200,
+    0x21_000000,
+    0x12_000001,
+    0x0F_000300,
+    0x0A_000041,
+    0x21_000002,
+    0x12_000001,
+    0x0F_000400,
+    0x21_000004,
+    0x12_000001,
+    0x0F_000500,
+    0x21_000006,
+    0x13_000001,
+    0x0F_000000,
+    0x21_000007,
+    0x13_000001,
+    0x0F_000100,
+    0x21_000000,
+    0x13_000001,
+    0x0F_000200,
+    0x21_000000,
+    0x13_000001,
+    0x0F_000300,
+    0x0A_000041,
+    0x21_000002,
+    0x13_000001,
+    0x0F_000400,
+    0x21_000004,
+    0x13_000001,
+    0x0F_000500,
+    0x21_000006,
+    0x14_000001,
+    0x0F_000000,
+    0x21_000007,
+    0x14_000001,
+    0x0F_000100,
+    0x21_000000,
+    0x14_000001,
+    0x0F_000200,
+    0x21_000000,
+    0x14_000001,
+    0x0F_000300,
+    0x0A_000041,
+    0x21_000002,
+    0x14_000001,
+    0x0F_000400,
+    0x21_000004,
+    0x14_000001,
+    0x0F_000500,
+    0x21_000006,
+    // the sum of the lengths: 17 of 255, and 18 or 17 more
+    0x0B_000012,
+    0x0C_0000FF,
+    0x0E_000012,
+    0x0F_000000,
+    0x21_000007,
+    0x0B_000012,
+    0x0C_0000FF,
+    0x0E_000011,
+    0x0F_000000,
+    0x21_000007,
+    0x0B_000012,
+    0x0C_0000FF,
+    0x0E_000012,
+    0x0F_000100,
+    0x21_000000,
+    0x0B_000012,
+    0x0C_0000FF,
+    0x0E_000011,
+    0x0F_000100,
+    0x21_000000,
+    0x0B_000012,
+    0x0C_0000FF,
+    0x0E_000012,
+    0x0F_000200,
+    0x21_000000,
+    0x0B_000012,
+    0x0C_0000FF,
+    0x0E_000011,
+    0x0F_000200,
+    0x21_000000,
+    0x0B_000012,
+    0x0C_0000FF,
+    0x0E_000012,
+    0x0F_000300,
+    0x0A_000041,
+    0x21_000002,
+    0x0B_000012,
+    0x0C_0000FF,
+    0x0E_000011,
+    0x0F_000300,
+    0x0A_000041,
+    0x21_000002,
+    0x0B_000012,
+    0x0C_0000FF,
+    0x0E_000012,
+    0x0F_000400,
+    0x21_000004,
+    0x0B_000012,
+    0x0C_0000FF,
+    0x0E_000011,
+    0x0F_000400,
+    0x21_000004,
+    0x0B_000012,
+    0x0C_0000FF,
+    0x0E_000012,
+    0x0F_000500,
+    0x21_000006,
+    0x0B_000012,
+    0x0C_0000FF,
+    0x0E_000011,
+    0x0F_000500,
+    0x21_000006,
+    // a skipped transaction
+    0x0C_000000,
+    0x0A_000041,
+    0x0F_000100,
+    0x21_000000,
+    0x0C_000000,
+    0x0A_000040,
+    0x0F_000100,
+    0x21_000000,
+    // a transaction that doesn't exist
+    0x0F_000103,
+    0x21_000000,
+    0x0F_000102,
+    0x21_000000,
+    0x0B_000040,
+    0x0F_000140,
+    0x21_000000,
+    0x0B_000040,
+    0x0F_00013F,
+    0x21_000000,
+    0x0B_000000,
+    0x0F_000100,
+    0x21_000000,
+    0x0F_000203,
+    0x21_000000,
+    0x0F_000202,
+    0x21_000000,
+    0x0B_000040,
+    0x0F_000240,
+    0x21_000000,
+    0x0B_000040,
+    0x0F_00023F,
+    0x21_000000,
+    0x0B_000000,
+    0x0F_000200,
+    0x21_000000,
+    0x0F_000303,
+    0x0A_000041,
+    0x21_000002,
+    0x0F_000302,
+    0x0A_000041,
+    0x21_000002,
+    0x0B_000040,
+    0x0F_000340,
+    0x0A_000041,
+    0x21_000002,
+    0x0B_000040,
+    0x0F_00033F,
+    0x0A_000041,
+    0x21_000002,
+    0x0B_000000,
+    0x0F_000300,
+    0x0A_000041,
+    0x21_000002,
+    // the direction
+    0x0A_000040,
+    0x0F_000100,
+    0x21_000000,
+    0x0A_000041,
+    0x0F_000100,
+    0x21_000000,
+    0x0A_000040,
+    0x0F_000200,
+    0x21_000000,
+    0x0A_000041,
+    0x0F_000200,
+    0x21_000000,
+    0x0A_000040,
+    0x0F_000300,
+    0x21_000002,
+    0x0A_000041,
+    0x0F_000300,
+    0x21_000002,
+    // the transaction's BYTECOUNT
+    0x15_000001,
+    0x0F_000100,
+    0x21_000000,
+    0x15_000000,
+    0x0F_000100,
+    0x21_000000,
+    0x15_000002,
+    0x0F_000200,
+    0x21_000000,
+    0x15_000001,
+    0x0F_000200,
+    0x21_000000,
+    0x0D_0000FF,
+    0x15_0000FF,
+    0x0F_000200,
+    0x21_000000,
+    0x0D_0000FF,
+    0x15_0000FE,
+    0x0F_000200,
+    0x21_000000,
+    0x15_000002,
+    0x0F_000300,
+    0x0A_000041,
+    0x21_000002,
+    0x15_000001,
+    0x0F_000300,
+    0x0A_000041,
+    0x21_000002,
+    0x0D_0000FF,
+    0x15_0000FF,
+    0x0F_000300,
+    0x0A_000041,
+    0x21_000002,
+    0x0D_0000FF,
+    0x15_0000FE,
+    0x0F_000300,
+    0x0A_000041,
+    0x21_000002,
+    // the BYTECOUNT of another entry
+    0x15_000001,
+    0x0F_000001,
+    0x21_000007,
+    0x15_000201,
+    0x0F_000001,
+    0x21_000007,
+    0x15_000301,
+    0x0F_000001,
+    0x21_000007,
+    0x15_003F01,
+    0x0F_000001,
+    0x21_000007,
+    0x15_000001,
+    0x0F_000101,
+    0x21_000000,
+    0x15_000201,
+    0x0F_000101,
+    0x21_000000,
+    0x15_000301,
+    0x0F_000101,
+    0x21_000000,
+    0x15_003F01,
+    0x0F_000101,
+    0x21_000000,
+    0x15_000001,
+    0x0F_000201,
+    0x21_000000,
+    0x15_000201,
+    0x0F_000201,
+    0x21_000000,
+    0x15_000301,
+    0x0F_000201,
+    0x21_000000,
+    0x15_003F01,
+    0x0F_000201,
+    0x21_000000,
+    0x15_000001,
+    0x0F_000301,
+    0x0A_000041,
+    0x21_000002,
+    0x15_000201,
+    0x0F_000301,
+    0x0A_000041,
+    0x21_000002,
+    0x15_000301,
+    0x0F_000301,
+    0x0A_000041,
+    0x21_000002,
+    0x15_003F01,
+    0x0F_000301,
+    0x0A_000041,
+    0x21_000002,
+    0x15_000001,
+    0x0F_000401,
+    0x21_000004,
+    0x15_000201,
+    0x0F_000401,
+    0x21_000004,
+    0x15_000301,
+    0x0F_000401,
+    0x21_000004,
+    0x15_003F01,
+    0x0F_000401,
+    0x21_000004,
+    0x15_000001,
+    0x0F_000501,
+    0x21_000006,
+    0x15_000201,
+    0x0F_000501,
+    0x21_000006,
+    0x15_000301,
+    0x0F_000501,
+    0x21_000006,
+    0x15_003F01,
+    0x0F_000501,
+    0x21_000006,
+    // any STATUS is in range
+    0x09_0000FF,
+    0x21_000007,
+    // calls of every kind, out of range and in it, with the keys and BE set
+    0x06_000040,
+    0x1D_000001,
+    0x16_000001,
+    0x19_000001,
+    0x18_000001,
+    0x1F_00C100,
+    0x06_00003F,
+    0x1D_000001,
+    0x16_000001,
+    0x19_000001,
+    0x18_000001,
+    0x1F_00C100,
+    0x06_000040,
+    0x1D_000001,
+    0x16_000001,
+    0x19_000001,
+    0x18_000001,
+    0x20_0000C1,
+    0x06_00003F,
+    0x1D_000001,
+    0x16_000001,
+    0x19_000001,
+    0x18_000001,
+    0x20_0000C1,
+    0x06_000040,
+    0x1D_000001,
+    0x16_000001,
+    0x19_000001,
+    0x18_000001,
+    0x1F_00CF5A,
+    0x06_00003F,
+    0x1D_000001,
+    0x16_000001,
+    0x19_000001,
+    0x18_000001,
+    0x1F_00CF5A,
+    0x06_000040,
+    0x1D_000001,
+    0x16_000001,
+    0x19_000001,
+    0x18_000001,
+    0x21_000000,
+    0x06_00003F,
+    0x1D_000001,
+    0x16_000001,
+    0x19_000001,
+    0x18_000001,
+    0x21_000000,
+    0x06_000040,
+    0x1D_000001,
+    0x16_000001,
+    0x19_000001,
+    0x18_000001,
+    0x1F_00D000,
+    0x06_00003F,
+    0x1D_000001,
+    0x16_000001,
+    0x19_000001,
+    0x18_000001,
+    0x1F_00D000,
+    0x06_000040,
+    0x1D_000001,
+    0x16_000001,
+    0x19_000001,
+    0x18_000001,
+    0x1F_00F800,
+    0x06_00003F,
+    0x1D_000001,
+    0x16_000001,
+    0x19_000001,
+    0x18_000001,
+    0x1F_00F800,
+    0x06_000040,
+    0x1D_000001,
+    0x16_000001,
+    0x19_000001,
+    0x18_000001,
+    0x20_0000F8,
+    0x06_00003F,
+    0x1D_000001,
+    0x16_000001,
+    0x19_000001,
+    0x18_000001,
+    0x20_0000F8,
+    0x06_000040,
+    0x1D_000001,
+    0x16_000001,
+    0x19_000001,
+    0x18_000001,
+    0x20_0000F0,
+    0x06_00003F,
+    0x1D_000001,
+    0x16_000001,
+    0x19_000001,
+    0x18_000001,
+    0x20_0000F0,
+    0x06_000040,
+    0x1D_000001,
+    0x16_000001,
+    0x19_000001,
+    0x18_000001,
+    0x1F_00F75A,
+    0x06_00003F,
+    0x1D_000001,
+    0x16_000001,
+    0x19_000001,
+    0x18_000001,
+    0x1F_00F75A,
+    0x06_000040,
+    0x1D_000001,
+    0x16_000001,
+    0x19_000001,
+    0x18_000001,
+    0x1A_000003,
+    0x22_000000,
+    0x06_00003F,
+    0x1D_000001,
+    0x16_000001,
+    0x19_000001,
+    0x18_000001,
+    0x1A_000003,
+    0x22_000000,
+    0x06_000040,
+    0x1D_000001,
+    0x16_000001,
+    0x19_000001,
+    0x18_000001,
+    0x1A_000003,
+    0x20_0000C2,
+    0x06_00003F,
+    0x1D_000001,
+    0x16_000001,
+    0x19_000001,
+    0x18_000001,
+    0x1A_000003,
+    0x20_0000C2,
+    0x06_000040,
+    0x1D_000001,
+    0x16_000001,
+    0x19_000001,
+    0x18_000001,
+    0x23_000000,
+    0x06_00003F,
+    0x1D_000001,
+    0x16_000001,
+    0x19_000001,
+    0x18_000001,
+    0x23_000000,
+    0x06_000040,
+    0x1D_000001,
+    0x16_000001,
+    0x19_000001,
+    0x18_000001,
+    0x24_000000,
+    0x06_00003F,
+    0x1D_000001,
+    0x16_000001,
+    0x19_000001,
+    0x18_000001,
+    0x24_000000,
+    0x06_000040,
+    0x1D_000001,
+    0x16_000001,
+    0x19_000001,
+    0x18_000001,
+    0x25_000000,
+    0x06_00003F,
+    0x1D_000001,
+    0x16_000001,
+    0x19_000001,
+    0x18_000001,
+    0x25_000000,
+    // memories
+    0x1B_000000,
+    0x1F_00C577,
+    0x1B_0010FF,
+    0x1F_00C577,
+    0x1B_001100,
+    0x1F_00C577,
+    0x1B_001101,
+    0x1F_00C577,
+    0x1B_003300,
+    0x1F_00C577,
+    0x1C_000000,
+    0x1F_00C577,
+    0x1C_001100,
+    0x1F_00C577,
+    0x1C_0032FF,
+    0x1F_00C577,
+    0x1C_003300,
+    0x1F_00C577,
+    0x1C_003301,
+    0x1F_00C577,
+];
 
 // ---- what is printed
 
@@ -18,19 +684,123 @@ fn say(text: &[u8]) {
     io::write_all(STDOUT_FILENO, text);
 }
 
+fn say_hex(b: u8) {
+    let digits = [sequence::digit(b / 16), sequence::digit(b % 16)];
+    say(&digits);
+}
+
+fn say_phase(p: usize) {
+    match p {
+        0 => say(b"Idle"),
+        1 => say(b"Address "),
+        2 => say(b"Sending "),
+        3 => say(b"Receiving "),
+        4 => say(b"Stopping"),
+        _ => say(b"Waiting"),
+    }
+}
+
+fn say_event(e: usize) {
+    match e {
+        0 => say(b"ACK"),
+        1 => say(b"NACK"),
+        2 => say(b"BYTE 77"),
+        3 => say(b"TICK"),
+        4 => say(b"STOP"),
+        5 => say(b"SDA"),
+        6 => say(b"SCL"),
+        _ => say(b"ILL"),
+    }
+}
+
+fn say_kind(kind: u32) {
+    match kind {
+        0x01 => say(b"TRANCONFIG pointer "),
+        0x02 => say(b"SLATABLE pointer "),
+        0x03 => say(b"DATA pointer "),
+        0x04 => say(b"BYTECOUNT pointer "),
+        0x05 => say(b"INTMSK "),
+        0x06 => say(b"TRANSEL "),
+        0x07 => say(b"TE "),
+        0x08 => say(b"FRAMECNT "),
+        0x09 => say(b"all STATUS "),
+        0x0A => say(b"all SLATABLE "),
+        0x0B => say(b"TRANCONFIG entry 0 "),
+        0x0C => say(b"all lengths "),
+        0x0D => say(b"first length "),
+        0x0E => say(b"18th length "),
+        0x0F => say(b""),
+        0x10 => say(b"ended "),
+        0x11 => say(b"STO "),
+        0x12 => say(b"STOSEQ "),
+        0x13 => say(b"FE "),
+        0x14 => say(b"error end "),
+        0x15 => say(b"BYTECOUNT "),
+        0x16 => say(b"key "),
+        0x17 => say(b"CTRLINTMSK "),
+        0x18 => say(b"BE "),
+        0x19 => say(b"part key "),
+        0x1A => say(b"called "),
+        0x1B => say(b"bytes of a channel "),
+        0x1C => say(b"bytes of the part "),
+        0x1D => say(b"SD "),
+        0x1F => say(b"W "),
+        0x20 => say(b"R "),
+        0x21 => say(b"E 0 "),
+        0x22 => say(b"E 3 "),
+        0x23 => say(b"T R"),
+        0x24 => say(b"T F"),
+        _ => say(b"X"),
+    }
+}
+
 fn say_number(n: usize) {
     io::print_decimal(STDOUT_FILENO, n as u64);
 }
 
-// The phases by number.
-fn say_phase(p: usize) {
-    match p {
-        0 => say(b"Idle"),
-        1 => say(b"Address"),
-        2 => say(b"Sending"),
-        3 => say(b"Receiving"),
-        4 => say(b"Stopping"),
-        _ => say(b"Waiting"),
+fn say_place(p: usize, n: usize) {
+    say_phase(p);
+    if 0 < p && p < 4 {
+        say_number(n);
+    }
+}
+
+fn say_pair(a: u8, v: u8) {
+    say_hex(a);
+    say(b" ");
+    say_hex(v);
+}
+
+fn say_count(entry: usize, k: usize) {
+    say_number(entry);
+    say(b" ");
+    say_number(k);
+}
+
+fn say_mask(m: u8) {
+    say_hex(m);
+    say(b"h");
+}
+
+fn say_value(kind: u32, v: usize) {
+    let high = v / 256;
+    let low = v % 256;
+    let b = low as u8;
+    match kind {
+        0x05 => say_mask(b),
+        0x09 => say_mask(b),
+        0x0A => say_mask(b),
+        0x0F => say_place(high, low),
+        0x15 => say_count(high, low),
+        0x17 => say_mask(b),
+        0x1F => say_pair((high % 256) as u8, b),
+        0x20 => say_hex(b),
+        0x21 => say_event(v),
+        0x22 => say_event(v),
+        0x23 => say(b""),
+        0x24 => say(b""),
+        0x25 => say(b""),
+        _ => say_number(v),
     }
 }
 
@@ -71,25 +841,10 @@ fn transaction(p: Phase) -> usize {
 fn same_walk(a: Walk, b: Walk) -> bool {
     let p = a.phase;
     let q = b.phase;
-    if phase_number(p) != phase_number(q) {
-        return false;
-    }
-    if transaction(p) != transaction(q) {
-        return false;
-    }
-    if a.ended != b.ended {
-        return false;
-    }
-    if a.sto != b.sto {
-        return false;
-    }
-    if a.seq != b.seq {
-        return false;
-    }
-    if a.fe != b.fe {
-        return false;
-    }
-    a.error == b.error
+    let phase = phase_number(p) == phase_number(q) && transaction(p) == transaction(q);
+    let stops = a.sto == b.sto && a.seq == b.seq;
+    let ends = a.fe == b.fe && a.error == b.error;
+    phase && stops && ends && a.ended == b.ended
 }
 
 fn same_tables(a: Channel, b: Channel) -> bool {
@@ -109,170 +864,159 @@ fn same_tables(a: Channel, b: Channel) -> bool {
 }
 
 fn same_registers(a: Channel, b: Channel) -> bool {
-    if a.regs.intmsk != b.regs.intmsk {
+    if a.regs.intmsk != b.regs.intmsk
+        || a.regs.transel != b.regs.transel
+        || a.regs.tranofs != b.regs.tranofs
+    {
         return false;
     }
-    if a.regs.transel != b.regs.transel {
+    if a.regs.tp != b.regs.tp || a.regs.te != b.regs.te || a.key != b.key {
         return false;
     }
-    if a.regs.tranofs != b.regs.tranofs {
+    if a.ptrs.sla != b.ptrs.sla || a.ptrs.conf != b.ptrs.conf {
         return false;
     }
-    if a.regs.tp != b.regs.tp {
-        return false;
-    }
-    if a.regs.te != b.regs.te {
-        return false;
-    }
-    if a.key != b.key {
+    if a.ptrs.buf != b.ptrs.buf || a.ptrs.count != b.ptrs.count {
         return false;
     }
     rules::chstatus_value(a.flags) == rules::chstatus_value(b.flags)
 }
 
-fn same_pointers(a: Channel, b: Channel) -> bool {
-    if a.ptrs.sla != b.ptrs.sla {
-        return false;
-    }
-    if a.ptrs.conf != b.ptrs.conf {
-        return false;
-    }
-    if a.ptrs.buf != b.ptrs.buf {
-        return false;
-    }
-    a.ptrs.count == b.ptrs.count
-}
-
 fn same_channel(a: Channel, b: Channel) -> bool {
-    if !same_tables(a, b) {
-        return false;
-    }
-    if !same_registers(a, b) {
-        return false;
-    }
-    if !same_pointers(a, b) {
-        return false;
-    }
     let w = a.walk;
     let v = b.walk;
-    same_walk(w, v)
+    same_tables(a, b) && same_registers(a, b) && same_walk(w, v)
 }
 
 fn same_part(a: Part, b: Part) -> bool {
-    if a.be != b.be {
-        return false;
-    }
-    if a.mask != b.mask {
-        return false;
-    }
-    if a.key != b.key {
+    if a.be != b.be || a.mask != b.mask || a.key != b.key {
         return false;
     }
     let cs = a.channels;
     let ds = b.channels;
-    if !same_channel(cs[0], ds[0]) {
-        return false;
-    }
-    if !same_channel(cs[1], ds[1]) {
-        return false;
-    }
-    same_channel(cs[2], ds[2])
+    same_channel(cs[0], ds[0]) && same_channel(cs[1], ds[1]) && same_channel(cs[2], ds[2])
 }
 
-// A memory longer than any that is lent, and whether it is as it was.
-const ROOM: usize = 13058;
-
+// The lent bytes are the first ones of a longer memory.
 fn untouched(mem: &[u8; 13058]) -> bool {
     let whole = [0x3Cu8; 13058];
     check::same(mem, &whole)
 }
 
-// ---- one call, on the first n bytes of that memory
+// ---- one call
 
-fn call_channel(c: Channel, number: u8, n: usize, op: Op)
-    requires { ⌜ n ≤ 13058 ⌝ }
-{
+fn step_channel(c: Channel, number: u8, mem: &mut [u8], n: usize, op: Op) -> Stepped {
+    if mem.len() < n {
+        return c.step(number, mem, op);
+    }
+    c.step(number, &mut mem[..n], op)
+}
+
+fn step_part(p: Part, mem: &mut [u8], n: usize, s: Step) -> PartStepped {
+    if mem.len() < n {
+        return p.step(mem, s);
+    }
+    p.step(&mut mem[..n], s)
+}
+
+fn call_channel(k: Case, op: Op) {
     let mut mem = [0x3Cu8; 13058];
-    let r = c.step(number, &mut mem[..n], op);
+    let c = k.channel;
+    let n = k.of_channel;
+    let r = step_channel(c, k.number, &mut mem, n, op);
     let after = r.channel;
     let left = same_channel(c, after) && untouched(&mem);
     let a = r.answer;
+    say(b" channel");
     say_result(a.number, left);
+    say(b";");
 }
 
-fn call_part(p: Part, n: usize, s: Step)
-    requires { ⌜ n ≤ 13058 ⌝ }
-{
+fn call_part(k: Case, i: usize, s: Step) {
     let mut mem = [0x3Cu8; 13058];
-    let r = p.step(&mut mem[..n], s);
+    let mut p = Part::new();
+    let c = k.channel;
+    p.be = k.be;
+    p.mask = k.mask;
+    p.key = k.key;
+    if i < 3 {
+        p.channels[i] = c;
+    }
+    let n = k.of_part;
+    let r = step_part(p, &mut mem, n, s);
     let after = r.part;
     let left = same_part(p, after) && untouched(&mem);
     let a = r.answer;
     say_result(a.number, left);
 }
 
-// ---- one record, as a channel and in the part
-
-// The same step of channel c: an address of channel 0 becomes that of the same register.
-fn shift(c: u8) -> u8
-    ensures { λ r. ⌜ r ≤ 32 ⌝ }
-{
-    match c {
-        0 => 0,
-        1 => 16,
-        _ => 32,
+// A step of the single channel, where it is one.
+fn call_single(k: Case, s: Step) {
+    match s {
+        Step::Write(a, v) => call_channel(k, Op::Write(a, v)),
+        Step::Read(a) => call_channel(k, Op::Read(a)),
+        Step::Wire(_, e) => call_channel(k, Op::Wire(e)),
+        Step::Trigger(_) => say(b""),
+        Step::Reset => say(b""),
     }
 }
 
-fn address(a: u8, c: u8) -> u8 {
-    0xC0 + a % 16 + shift(c)
-}
-
-fn step_of(c: u8, op: Op) -> Step {
-    match op {
-        Op::Write(a, v) => Step::Write(address(a, c), v),
-        Op::Read(a) => Step::Read(address(a, c)),
-        Op::Wire(e) => Step::Wire(c, e),
+// The same step of channel i: an address of channel 0 becomes that of the same register, an event of channel 0 its own.
+fn address(a: u8, i: u8) -> u8 {
+    if a / 16 != 12 {
+        return a;
+    }
+    match i {
+        0 => a,
+        1 => 0xD0 + a % 16,
+        _ => 0xE0 + a % 16,
     }
 }
 
-fn first_of(c: Channel) -> Part {
-    let mut p = Part::new();
-    p.channels[0] = c;
-    p
+fn own(c: u8, i: u8) -> u8 {
+    if c == 0 { i } else { c }
 }
 
-fn second_of(c: Channel) -> Part {
-    let mut p = Part::new();
-    p.channels[1] = c;
-    p
+fn step_at(s: Step, i: u8) -> Step {
+    match s {
+        Step::Write(a, v) => Step::Write(address(a, i), v),
+        Step::Read(a) => Step::Read(address(a, i)),
+        Step::Wire(c, e) => Step::Wire(own(c, i), e),
+        Step::Trigger(e) => Step::Trigger(e),
+        Step::Reset => Step::Reset,
+    }
 }
 
-fn third_of(c: Channel) -> Part {
-    let mut p = Part::new();
-    p.channels[2] = c;
-    p
-}
-
-// The rest of a line, after what is special about the record.
-fn results(c: Channel, op: Op) {
-    say(b": channel");
-    call_channel(c, 0, 4352, op);
-    say(b"; part");
-    call_part(first_of(c), 13056, step_of(0, op));
-    call_part(second_of(c), 13056, step_of(1, op));
-    call_part(third_of(c), 13056, step_of(2, op));
+fn run(k: Case, s: Step) {
+    say(b":");
+    call_single(k, s);
+    say(b" part");
+    call_part(k, 0, step_at(s, 0));
+    call_part(k, 1, step_at(s, 1));
+    call_part(k, 2, step_at(s, 2));
     say(b"; reset");
-    call_part(second_of(c), 13056, Step::Reset);
+    call_part(k, 1, Step::Reset);
     say(b"\n");
 }
 
-fn row(what: &[u8], c: Channel, op: Op) {
-    say(what);
-    results(c, op);
-}
+// ---- a row
 
-// ---- records in a phase
+// In range: three transactions of two bytes, writes to 40h.
+fn base() -> Case {
+    let mut channel = Channel::new();
+    channel.slatable = [0x40; 64];
+    channel.tranconfig = [2; 65];
+    channel.tranconfig[0] = 3;
+    Case {
+        channel,
+        be: false,
+        mask: 0,
+        key: false,
+        number: 0,
+        of_channel: 4352,
+        of_part: 13056,
+    }
+}
 
 fn phase_of(p: usize, n: usize) -> Phase {
     match p {
@@ -285,457 +1029,151 @@ fn phase_of(p: usize, n: usize) -> Phase {
     }
 }
 
-// An event that is awaited in the phase.
-fn event_of(p: usize) -> Op {
-    match p {
-        0 => Op::Wire(Event::Ill),
-        1 => Op::Wire(Event::Ack),
-        2 => Op::Wire(Event::Ack),
-        3 => Op::Wire(Event::Byte(0x77)),
-        4 => Op::Wire(Event::Stop),
-        _ => Op::Wire(Event::Scl),
-    }
-}
-
-// An address byte whose direction is the phase's.
-fn sla_of(p: usize) -> u8 {
-    if p == 3 { 0x41 } else { 0x40 }
-}
-
-// Transaction n of `count`, all with this address byte and two bytes long, in phase p.
-fn directed(p: usize, n: usize, count: u8, sla: u8) -> Channel {
-    let mut c = Channel::new();
-    c.slatable = [sla; 64];
-    c.tranconfig = [2; 65];
-    c.tranconfig[0] = count;
-    let phase = phase_of(p, n);
-    let w = Walk {
+fn with_phase(w: Walk, v: usize) -> Walk {
+    let phase = phase_of(v / 256, v % 256);
+    Walk {
         phase,
-        ended: 0,
-        sto: false,
-        seq: false,
-        fe: false,
-        error: false,
-    };
-    c.walk = w;
-    c
-}
-
-fn standing(p: usize, n: usize, count: u8) -> Channel {
-    directed(p, n, count, sla_of(p))
-}
-
-// In range, at the first of three transactions.
-fn base(p: usize) -> Channel {
-    standing(p, 0, 3)
-}
-
-// ---- pointers and registers
-
-fn sla_at(n: usize) -> Channel {
-    let mut c = Channel::new();
-    c.ptrs.sla = n;
-    c
-}
-
-fn count_at(n: usize) -> Channel {
-    let mut c = Channel::new();
-    c.ptrs.count = n;
-    c
-}
-
-fn conf_at(n: usize) -> Channel {
-    let mut c = Channel::new();
-    c.ptrs.conf = n;
-    c
-}
-
-fn data_at(n: usize) -> Channel {
-    let mut c = Channel::new();
-    c.ptrs.buf = n;
-    c
-}
-
-fn pointers() {
-    row(b"SLATABLE pointer 65", sla_at(65), Op::Read(0xC3));
-    row(b"SLATABLE pointer 64", sla_at(64), Op::Read(0xC3));
-    row(b"BYTECOUNT pointer 65", count_at(65), Op::Read(0xC8));
-    row(b"BYTECOUNT pointer 64", count_at(64), Op::Read(0xC8));
-    row(b"TRANCONFIG pointer 66", conf_at(66), Op::Read(0xC4));
-    row(b"TRANCONFIG pointer 65", conf_at(65), Op::Read(0xC4));
-    row(b"DATA pointer 4353", data_at(4353), Op::Read(0xC5));
-    row(b"DATA pointer 4352", data_at(4352), Op::Read(0xC5));
-    row(b"DATA pointer 2^64 - 1", data_at(0xFFFF_FFFF_FFFF_FFFF), Op::Read(0xC5));
-}
-
-fn count_of(n: u8) -> Channel {
-    let mut c = Channel::new();
-    c.tranconfig[0] = n;
-    c
-}
-
-fn selected(n: u8) -> Channel {
-    let mut c = Channel::new();
-    c.regs.transel = n;
-    c
-}
-
-fn masked(m: u8) -> Channel {
-    let mut c = Channel::new();
-    c.regs.intmsk = m;
-    c
-}
-
-fn registers() {
-    row(b"TRANCONFIG entry 0 65", count_of(65), Op::Write(0xC0, 0x40));
-    row(b"TRANCONFIG entry 0 64", count_of(64), Op::Write(0xC0, 0x40));
-    row(b"TRANSEL 64", selected(64), Op::Write(0xC7, 0x01));
-    row(b"TRANSEL 63", selected(63), Op::Write(0xC7, 0x01));
-    row(b"INTMSK F9h", masked(0xF9), Op::Read(0xC2));
-    row(b"INTMSK F5h", masked(0xF5), Op::Read(0xC2));
-    row(b"INTMSK F3h", masked(0xF3), Op::Read(0xC2));
-    row(b"INTMSK F1h", masked(0xF1), Op::Read(0xC2));
-}
-
-fn part_masked(m: u8) -> Part {
-    let mut p = Part::new();
-    p.mask = m;
-    p
-}
-
-fn mask_row(what: &[u8], m: u8) {
-    say(what);
-    say(b": part");
-    call_part(part_masked(m), 13056, Step::Read(0xF1));
-    say(b"; reset");
-    call_part(part_masked(m), 13056, Step::Reset);
-    say(b"\n");
-}
-
-fn masks() {
-    mask_row(b"CTRLINTMSK C7h", 0xC7);
-    mask_row(b"CTRLINTMSK A7h", 0xA7);
-    mask_row(b"CTRLINTMSK 97h", 0x97);
-    mask_row(b"CTRLINTMSK 8Fh", 0x8F);
-    mask_row(b"CTRLINTMSK 87h", 0x87);
-}
-
-// ---- ended frames
-
-fn ended(p: usize, e: usize, framecnt: u8, te: bool) -> Channel {
-    let mut c = base(p);
-    c.settings[0] = framecnt;
-    c.regs.te = te;
-    c.walk.ended = e;
-    c
-}
-
-// Three and two ended frames of three, in each active phase.
-fn ended_row(p: usize, e: usize) {
-    say_number(e);
-    say(b" ended of FRAMECNT 3 in ");
-    say_phase(p);
-    results(ended(p, e, 3, false), event_of(p));
-}
-
-fn all_ended() {
-    let mut p: usize = 1;
-    while p < 6 {
-        ended_row(p, 3);
-        ended_row(p, 2);
-        p += 1;
-    }
-    row(b"1 ended of FRAMECNT 3 in Idle", ended(0, 1, 3, false), event_of(0));
-    row(b"0 ended of FRAMECNT 3 in Idle", ended(0, 0, 3, false), event_of(0));
-    row(b"1 ended with TE 1 in Waiting", ended(5, 1, 3, true), event_of(5));
-    row(b"0 ended with TE 1 in Waiting", ended(5, 0, 3, true), event_of(5));
-    row(b"1 ended with FRAMECNT 0 in Waiting", ended(5, 1, 0, false), event_of(5));
-    row(b"0 ended with FRAMECNT 0 in Waiting", ended(5, 0, 0, false), event_of(5));
-    row(b"1 ended of FRAMECNT 1 in Waiting", ended(5, 1, 1, false), Op::Wire(Event::Tick));
-    row(b"0 ended of FRAMECNT 1 in Waiting", ended(5, 0, 1, false), Op::Wire(Event::Tick));
-}
-
-// ---- what is recorded
-
-fn recorded(what: usize, p: usize) -> Channel {
-    let mut c = base(p);
-    match what {
-        0 => c.walk.sto = true,
-        1 => c.walk.seq = true,
-        2 => c.walk.fe = true,
-        _ => c.walk.error = true,
-    }
-    c
-}
-
-fn say_record(what: usize) {
-    match what {
-        0 => say(b"STO in "),
-        1 => say(b"STOSEQ in "),
-        2 => say(b"FE in "),
-        _ => say(b"an error end in "),
+        ended: w.ended,
+        sto: w.sto,
+        seq: w.seq,
+        fe: w.fe,
+        error: w.error,
     }
 }
 
-fn recorded_row(what: usize, p: usize) {
-    say_record(what);
-    say_phase(p);
-    results(recorded(what, p), event_of(p));
+fn set_walk(walk: Walk, kind: u32, v: usize) -> Walk {
+    let mut w = walk;
+    match kind {
+        0x0F => w = with_phase(walk, v),
+        0x10 => w.ended = v,
+        0x11 => w.sto = true,
+        0x12 => w.seq = true,
+        0x13 => w.fe = true,
+        _ => w.error = true,
+    }
+    w
 }
 
-fn all_recorded() {
-    let mut i: usize = 0;
-    while i < 24 {
-        recorded_row(i / 6, i % 6);
-        i += 1;
+fn set_register(c: Channel, kind: u32, v: usize) -> Channel {
+    let b = (v % 256) as u8;
+    let mut d = c;
+    match kind {
+        0x01 => d.ptrs.conf = v,
+        0x02 => d.ptrs.sla = v,
+        0x03 => d.ptrs.buf = v,
+        0x04 => d.ptrs.count = v,
+        0x05 => d.regs.intmsk = b,
+        0x06 => d.regs.transel = b,
+        0x07 => d.regs.te = true,
+        _ => d.settings[0] = b,
+    }
+    d
+}
+
+fn set_table(c: Channel, kind: u32, v: usize) -> Channel {
+    let b = (v % 256) as u8;
+    let entry = v / 256 % 64;
+    let count = c.tranconfig[0];
+    let mut d = c;
+    match kind {
+        0x09 => d.status = [b; 64],
+        0x0A => d.slatable = [b; 64],
+        0x0B => d.tranconfig[0] = b,
+        0x0C => {
+            d.tranconfig = [b; 65];
+            d.tranconfig[0] = count;
+        }
+        0x0D => d.tranconfig[1] = b,
+        0x0E => d.tranconfig[18] = b,
+        _ => d.bytecount[entry] = b,
+    }
+    d
+}
+
+fn set_channel(c: Channel, kind: u32, v: usize) -> Channel {
+    if kind < 0x09 {
+        return set_register(c, kind, v);
+    }
+    if kind < 0x0F || kind == 0x15 {
+        return set_table(c, kind, v);
+    }
+    let w = set_walk(c.walk, kind, v);
+    let mut d = c;
+    d.walk = w;
+    d
+}
+
+fn set_case(k: Case, kind: u32, v: usize) -> Case {
+    let mut m = k;
+    match kind {
+        0x16 => m.channel.key = true,
+        0x17 => m.mask = (v % 256) as u8,
+        0x18 => m.be = true,
+        0x19 => m.key = true,
+        0x1A => m.number = (v % 256) as u8,
+        0x1B => m.of_channel = v,
+        0x1C => m.of_part = v,
+        _ => m.channel.flags.sd = true,
+    }
+    m
+}
+
+fn alter(k: Case, kind: u32, v: usize) -> Case {
+    if 0x15 < kind {
+        return set_case(k, kind, v);
+    }
+    let c = set_channel(k.channel, kind, v);
+    let mut m = k;
+    m.channel = c;
+    m
+}
+
+fn event_of(e: usize) -> Event {
+    match e {
+        0 => Event::Ack,
+        1 => Event::Nack,
+        2 => Event::Byte(0x77),
+        3 => Event::Tick,
+        4 => Event::Stop,
+        5 => Event::Sda,
+        6 => Event::Scl,
+        _ => Event::Ill,
     }
 }
 
-// ---- a frame's lengths and its transaction
-
-// Eighteen transactions, of 255 bytes but for the last.
-fn long(p: usize, last: u8) -> Channel {
-    let mut c = base(p);
-    c.tranconfig = [255; 65];
-    c.tranconfig[0] = 18;
-    c.tranconfig[18] = last;
-    c
-}
-
-fn long_rows(p: usize) {
-    say(b"lengths of 4353 in ");
-    say_phase(p);
-    results(long(p, 18), event_of(p));
-    say(b"lengths of 4352 in ");
-    say_phase(p);
-    results(long(p, 17), event_of(p));
-}
-
-fn all_long() {
-    let mut p: usize = 0;
-    while p < 6 {
-        long_rows(p);
-        p += 1;
+fn step_of(kind: u32, v: usize) -> Step {
+    let high = (v / 256 % 256) as u8;
+    let low = (v % 256) as u8;
+    match kind {
+        0x1F => Step::Write(high, low),
+        0x20 => Step::Read(low),
+        0x21 => Step::Wire(0, event_of(v)),
+        0x22 => Step::Wire(3, event_of(v)),
+        0x23 => Step::Trigger(Edge::Rising),
+        0x24 => Step::Trigger(Edge::Falling),
+        _ => Step::Reset,
     }
 }
 
-fn empty(sla: u8) -> Channel {
-    let mut c = directed(1, 0, 1, sla);
-    c.tranconfig[1] = 0;
-    c
-}
-
-fn standing_row(p: usize, n: usize, count: u8) {
-    say(b"transaction ");
-    say_number(n);
-    say(b" of ");
-    io::print_decimal(STDOUT_FILENO, count as u64);
-    say(b" in ");
-    say_phase(p);
-    results(standing(p, n, count), event_of(p));
-}
-
-fn standing_rows(p: usize) {
-    standing_row(p, 3, 3);
-    standing_row(p, 2, 3);
-    standing_row(p, 64, 64);
-    standing_row(p, 63, 64);
-    standing_row(p, 0xFFFF_FFFF_FFFF_FFFF, 64);
-}
-
-fn transactions() {
-    row(b"a read of length 0 in Address", empty(0x41), event_of(1));
-    row(b"a write of length 0 in Address", empty(0x40), event_of(1));
-    standing_rows(1);
-    standing_rows(2);
-    standing_rows(3);
-    row(b"a write in Address", directed(1, 0, 3, 0x40), event_of(1));
-    row(b"a read in Address", directed(1, 0, 3, 0x41), event_of(1));
-    row(b"a write in Sending", directed(2, 0, 3, 0x40), event_of(2));
-    row(b"a read in Sending", directed(2, 0, 3, 0x41), event_of(2));
-    row(b"a write in Receiving", directed(3, 0, 3, 0x40), event_of(3));
-    row(b"a read in Receiving", directed(3, 0, 3, 0x41), event_of(3));
-}
-
-// ---- the counts of bytes
-
-// The first of three transactions, of this length, with k bytes counted.
-fn counted(p: usize, len: u8, k: u8) -> Channel {
-    let mut c = base(p);
-    c.tranconfig[1] = len;
-    c.bytecount[0] = k;
-    c
-}
-
-fn counts() {
-    row(b"byte 1 of 2 in Address", counted(1, 2, 1), event_of(1));
-    row(b"byte 0 of 2 in Address", counted(1, 2, 0), event_of(1));
-    row(b"byte 2 of 2 in Sending", counted(2, 2, 2), event_of(2));
-    row(b"byte 1 of 2 in Sending", counted(2, 2, 1), event_of(2));
-    row(b"byte 255 of 255 in Sending", counted(2, 255, 255), event_of(2));
-    row(b"byte 254 of 255 in Sending", counted(2, 255, 254), event_of(2));
-    row(b"byte 2 of 2 in Receiving", counted(3, 2, 2), event_of(3));
-    row(b"byte 1 of 2 in Receiving", counted(3, 2, 1), event_of(3));
-    row(b"byte 255 of 255 in Receiving", counted(3, 255, 255), event_of(3));
-    row(b"byte 254 of 255 in Receiving", counted(3, 255, 254), event_of(3));
-}
-
-// The second of three transactions, with a byte counted at another entry.
-fn beside(p: usize, entry: usize) -> Channel
-    requires { ⌜ entry ≤ 63 ⌝ }
-{
-    let mut c = standing(p, 1, 3);
-    c.bytecount[entry] = 1;
-    c
-}
-
-fn beside_row(p: usize, entry: usize)
-    requires { ⌜ entry ≤ 63 ⌝ }
-{
-    say(b"a byte counted at entry ");
-    say_number(entry);
-    say(b", transaction 1 in ");
-    say_phase(p);
-    results(beside(p, entry), event_of(p));
-}
-
-fn all_beside() {
-    let mut p: usize = 0;
-    while p < 6 {
-        beside_row(p, 0);
-        beside_row(p, 2);
-        beside_row(p, 3);
-        beside_row(p, 63);
-        p += 1;
+// One entry of the table: an alteration, or a step, after which a row is over.
+fn entry(k: Case, e: u32) -> Case {
+    let kind = e / 0x1000000;
+    let v = (e % 0x1000000) as usize;
+    say_kind(kind);
+    say_value(kind, v);
+    if kind < 0x1F {
+        say(b", ");
+        return alter(k, kind, v);
     }
-}
-
-// ---- STATUS
-
-fn odd_status() -> Channel {
-    let mut c = Channel::new();
-    c.status = [0xFF; 64];
-    c
-}
-
-// ---- calls of every kind, with TRANSEL 64 and with 63
-
-fn lone(sel: u8) -> Channel {
-    let mut c = Channel::new();
-    c.regs.transel = sel;
-    c.flags.sd = true;
-    c.key = true;
-    c
-}
-
-fn channel_call(what: &[u8], number: u8, op: Op) {
-    say(what);
-    say(b": out of range");
-    call_channel(lone(64), number, 4352, op);
-    say(b", in range");
-    call_channel(lone(63), number, 4352, op);
-    say(b"\n");
-}
-
-fn channel_calls() {
-    channel_call(b"channel 0, W D0 40", 0, Op::Write(0xD0, 0x40));
-    channel_call(b"channel 0, R F6", 0, Op::Read(0xF6));
-    channel_call(b"channel 0, W C1 00", 0, Op::Write(0xC1, 0x00));
-    channel_call(b"channel 0, R C1", 0, Op::Read(0xC1));
-    channel_call(b"channel 0, W CF 5A", 0, Op::Write(0xCF, 0x5A));
-    channel_call(b"channel 0, ACK", 0, Op::Wire(Event::Ack));
-    channel_call(b"channel 3, R C0", 3, Op::Read(0xC0));
-    channel_call(b"channel 3, ACK", 3, Op::Wire(Event::Ack));
-}
-
-// Channel 1 has that TRANSEL; channel 0's key, the part's key and BE are set.
-fn keyed(sel: u8) -> Part {
-    let mut p = Part::new();
-    let c = lone(0);
-    let d = selected(sel);
-    p.channels[0] = c;
-    p.channels[1] = d;
-    p.be = true;
-    p.key = true;
-    p
-}
-
-fn part_call(what: &[u8], s: Step) {
-    say(what);
-    say(b": out of range");
-    call_part(keyed(64), 13056, s);
-    say(b", in range");
-    call_part(keyed(63), 13056, s);
-    say(b"\n");
-}
-
-fn part_calls() {
-    part_call(b"W C2 01", Step::Write(0xC2, 0x01));
-    part_call(b"R C1", Step::Read(0xC1));
-    part_call(b"R C2", Step::Read(0xC2));
-    part_call(b"W C1 00", Step::Write(0xC1, 0x00));
-    part_call(b"W 00 00", Step::Write(0x00, 0x00));
-    part_call(b"W F8 00", Step::Write(0xF8, 0x00));
-    part_call(b"R F8", Step::Read(0xF8));
-    part_call(b"R F0", Step::Read(0xF0));
-    part_call(b"W CF 5A", Step::Write(0xCF, 0x5A));
-    part_call(b"W F7 5A", Step::Write(0xF7, 0x5A));
-    part_call(b"E 3 ACK", Step::Wire(3, Event::Ack));
-    part_call(b"E 0 ACK", Step::Wire(0, Event::Ack));
-    part_call(b"T R", Step::Trigger(Edge::Rising));
-    part_call(b"T F", Step::Trigger(Edge::Falling));
-    part_call(b"X", Step::Reset);
-}
-
-// ---- memories
-
-fn channel_memory(n: usize)
-    requires { ⌜ n ≤ 13058 ⌝ }
-{
-    say(b"a channel over ");
-    say_number(n);
-    say(b" bytes, W C5 77:");
-    call_channel(Channel::new(), 0, n, Op::Write(0xC5, 0x77));
-    say(b"\n");
-}
-
-fn part_memory(n: usize)
-    requires { ⌜ n ≤ 13058 ⌝ }
-{
-    say(b"the part over ");
-    say_number(n);
-    say(b" bytes, W E5 77:");
-    call_part(Part::new(), n, Step::Write(0xE5, 0x77));
-    say(b", X:");
-    call_part(Part::new(), n, Step::Reset);
-    say(b"\n");
-}
-
-fn memories() {
-    channel_memory(0);
-    channel_memory(4351);
-    channel_memory(4352);
-    channel_memory(4353);
-    channel_memory(13056);
-    part_memory(0);
-    part_memory(4352);
-    part_memory(13055);
-    part_memory(13056);
-    part_memory(13057);
+    run(k, step_of(kind, v));
+    base()
 }
 
 fn main() {
-    pointers();
-    registers();
-    masks();
-    all_ended();
-    all_recorded();
-    all_long();
-    transactions();
-    counts();
-    all_beside();
-    row(b"STATUS bytes FFh in Idle", odd_status(), event_of(0));
-    channel_calls();
-    part_calls();
-    memories();
+    let mut k = base();
+    let mut i: usize = 0;
+    while i < ENTRIES {
+        k = entry(k, TABLE[i]);
+        i += 1;
+    }
 }
