@@ -5,10 +5,10 @@ use Rattle.states.proofs.main.Statement.{statement}
 use Rattle.states.proofs.main.Tie as tie
 
 abbrev Inv-loop : tie.InvT-loop
-Inv-loop k₀ i₀ k i = Unit {0}
+Inv-loop c₀ i₀ c i = Unit {0}
 
 abbrev μ-loop : tie.MeasureT-loop
-μ-loop k₀ i₀ k i = 634 - i
+μ-loop c₀ i₀ c i = 645 - i
 
 pub main-spec : {M : Type 1} → statement M
 main-spec =
@@ -16,7 +16,6 @@ main-spec =
     (tie.spec
     Inv-loop
     μ-loop
-    (λ c. search needs)
     (λ c. search needs)
     (λ c. search needs)
     (λ c. search needs)
