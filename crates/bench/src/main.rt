@@ -1,12 +1,14 @@
 // The script program: steps on standard input, a line each, and a line of answer for each on standard output, over one part.
+ghost use mathlib.Core.Bool.{true};
 ghost use mathlib.Core.Path.{_≡_};
-ghost use mathlib.Core.Bool.{false};
-ghost use Rattle.script.specs.Answer.{noAnswer};
-ghost use Rattle.script.specs.declared.reading.Line.the-variants.{Unreadable};
-ghost use Rattle.bench.specs.Keeping.{withByte, readOf, nextOf};
+ghost use Prim.Native.Nat.{_≤_};
+ghost use lib.ListN.{length};
+ghost use Rattle.part.specs.Step.{partIn, Whole};
+ghost use Rattle.bench.specs.Keeping.{withByte, lengthened, readOf, readOn, performed, performedBytes, nextOf};
 use libc::STDIN_FILENO;
 use libc::STDOUT_FILENO;
 use part::Part;
+use part::PartAnswer;
 use part::PartStepped;
 use script::Line;
 
@@ -16,14 +18,18 @@ struct Start {
     len: usize,
 }
 
-// What the program keeps: the part, the number of the last step, the line that is being read, how much of the output waits to be written, and
-// whether the program goes on.
+// How much of the output waits to be written, and whether each write went well.
+struct Output {
+    waiting: usize,
+    running: bool,
+}
+
+// What the program keeps between two reads: the part, the number of the last step, the line that is being read, and the output.
 struct Bench {
     part: Part,
     step: u64,
     line: Start,
-    waiting: usize,
-    running: bool,
+    output: Output,
 }
 
 // ---- a line
@@ -51,6 +57,19 @@ fn with_byte(line: Start, b: u8) -> Start
     line
 }
 
+// The line with more of its bytes.
+fn lengthen(line: Start, more: &[u8]) -> Start
+    ensures { λ r. ⌜ r ≡ lengthened line (now (more .entry)) ⌝ }
+{
+    let mut longer = line;
+    let mut i = 0;
+    while i < more.len() {
+        longer = with_byte(longer, more[i]);
+        i += 1;
+    }
+    longer
+}
+
 fn read(bytes: [u8; 12], n: usize) -> Line
     ensures { λ r. ⌜ r ≡ readOf bytes n ⌝ }
 {
@@ -60,14 +79,41 @@ fn read(bytes: [u8; 12], n: usize) -> Line
     Line::Unreadable
 }
 
-// What a line does. One that can't be read is no. 8 and leaves the part.
-fn perform(part: Part, mem: &mut [u8], line: Start) -> PartStepped
-    ensures { λ r. ⌜ (readOf (line .bytes) (line .len) ≡ Unreadable → (r .part ≡ part) × (r .answer ≡ noAnswer) × (now (mem .exit) ≡ now (mem .entry))) ⌝ }
+// The line that was begun, with the rest of its bytes.
+fn read_on(line: Start, rest: &[u8]) -> Line
+    ensures { λ r. ⌜ r ≡ readOn line (now (rest .entry)) ⌝ }
 {
-    let bytes = line.bytes;
-    let n = line.len;
-    match read(bytes, n) {
-        Line::Readable(s) => part.step(mem, s),
+    if line.len == 0 {
+        return script::read_line(rest);
+    }
+    let whole = lengthen(line, rest);
+    let bytes = whole.bytes;
+    let n = whole.len;
+    read(bytes, n)
+}
+
+// The place of the first LF from a place on, or the block's end.
+fn line_end(block: &[u8], from: usize) -> usize
+    requires { ⌜ from ≤ length (now block) ⌝ }
+    ensures { λ r. ⌜ (from ≤ r) × (r ≤ length (now (block .entry))) ⌝ }
+{
+    let mut i = from;
+    while i < block.len() {
+        if block[i] == b'\n' {
+            return i;
+        }
+        i += 1;
+    }
+    i
+}
+
+// What a line does. One that can't be read is no. 8 and leaves the part.
+fn perform(part: Part, mem: &mut [u8], line: Line) -> PartStepped
+    requires { ⌜ Whole part (now mem) ⌝ }
+    ensures { λ r. ⌜ (r ≡ performed part (now (mem .entry)) line) × (now (mem .exit) ≡ performedBytes part (now (mem .entry)) line) × Whole (r .part) (now (mem .exit)) ⌝ }
+{
+    match line {
+        Line::Readable(s) => part.advance(mem, s),
         Line::Unreadable => PartStepped {
             part,
             answer: script::unreadable(),
@@ -89,27 +135,37 @@ fn write_first(out: &[u8], n: usize, running: bool) -> bool {
 }
 
 // Writes what waits. A write that fails ends the program.
-fn flush(mut b: Bench, out: &[u8]) -> Bench
-    ensures { λ r. ⌜ (r .waiting ≡ 0) × (r .part ≡ b .part) × (r .step ≡ b .step) × (r .line ≡ b .line) ⌝ }
+fn flush(output: Output, out: &[u8]) -> Output
+    ensures { λ r. ⌜ r .waiting ≡ 0 ⌝ }
 {
-    let n = b.waiting;
-    let written = write_first(out, n, b.running);
-    b.waiting = 0;
-    b.running = written;
-    b
+    let n = output.waiting;
+    let running = write_first(out, n, output.running);
+    Output {
+        waiting: 0,
+        running,
+    }
 }
 
 // A line asks for 80 bytes, and the output has 65,536.
 const LAST_PLACE: usize = 65456;
 
 // Makes room for a line where there is none.
-fn make_room(b: Bench, out: &[u8]) -> Bench
-    ensures { λ r. ⌜ (r .part ≡ b .part) × (r .step ≡ b .step) × (r .line ≡ b .line) ⌝ }
-{
-    if b.waiting <= LAST_PLACE {
-        return b;
+fn make_room(output: Output, out: &[u8]) -> Output {
+    if output.waiting <= LAST_PLACE {
+        return output;
     }
-    flush(b, out)
+    flush(output, out)
+}
+
+// Puts the line of an answer behind what waits.
+fn put_answer(output: Output, step: u64, answer: PartAnswer, int: bool, out: &mut [u8]) -> Output {
+    let at = output.waiting;
+    let waiting = script::write_answer(step, answer, int, out, at);
+    let longer = Output {
+        waiting,
+        running: output.running,
+    };
+    make_room(longer, out)
 }
 
 // ---- a step a line
@@ -124,65 +180,66 @@ fn next_number(step: u64) -> u64
     step + 1
 }
 
-// Answers the line that has been read.
-fn answer_line(b: Bench, mem: &mut [u8], out: &mut [u8]) -> Bench
-    ensures { λ r. ⌜ (r .step ≡ nextOf (b .step)) × (r .line .len ≡ 0) ⌝ }
-{
-    let mut next = make_room(b, out);
-    let part = next.part;
-    let line = next.line;
-    let r = perform(part, mem, line);
-    let after = r.part;
-    let reply = r.answer;
-    let step = next_number(next.step);
-    let at = next.waiting;
-    let end = script::write_answer(step, reply, after.interrupt(), out, at);
-    let empty = no_line();
-    next.part = after;
-    next.step = step;
-    next.line = empty;
-    next.waiting = end;
-    next
-}
-
 // Answers each line that ends in a block, and keeps the start of the one that doesn't.
-fn answer_block(b: Bench, block: &[u8], mem: &mut [u8], out: &mut [u8]) -> Bench {
-    let mut now = b;
-    let mut i = 0;
-    while i < block.len() && now.running {
-        let x = block[i];
-        if x == b'\n' {
-            now = answer_line(now, mem, out);
-        } else {
-            let line = now.line;
-            let longer = with_byte(line, x);
-            now.line = longer;
-        }
-        i += 1;
+fn answer_block(b: Bench, block: &[u8], mem: &mut [u8], out: &mut [u8]) -> Bench
+    requires { ⌜ Whole (b .part) (now mem) ⌝ }
+    ensures { λ r. ⌜ Whole (r .part) (now (mem .exit)) ⌝ }
+{
+    let mut part = b.part;
+    let mut step = b.step;
+    let mut line = b.line;
+    let mut output = b.output;
+    let mut from = 0;
+    let mut end = line_end(block, 0);
+    while end < block.len() && output.running {
+        let l = read_on(line, &block[from..end]);
+        let r = perform(part, mem, l);
+        let after = r.part;
+        let answer = r.answer;
+        part = after;
+        step = next_number(step);
+        output = put_answer(output, step, answer, part.interrupt(), out);
+        line = no_line();
+        from = end + 1;
+        end = line_end(block, from);
     }
-    flush(now, out)
+    Bench {
+        part,
+        step,
+        line: lengthen(line, &block[from..]),
+        output: flush(output, out),
+    }
 }
 
-fn stop(b: Bench, out: &[u8]) -> Bench
-    ensures { λ r. ⌜ r .running ≡ false ⌝ }
+// The program ends.
+fn stop(mut b: Bench) -> Bench
+    ensures { λ r. ⌜ r .part ≡ b .part ⌝ }
 {
-    let mut last = flush(b, out);
-    last.running = false;
-    last
+    let output = Output {
+        waiting: 0,
+        running: false,
+    };
+    b.output = output;
+    b
 }
 
 // The input has ended: what follows the last LF is a line if it has a byte.
-fn finish(b: Bench, mem: &mut [u8], out: &mut [u8]) -> Bench {
+fn finish(b: Bench, mem: &mut [u8], out: &mut [u8]) -> Bench
+    requires { ⌜ Whole (b .part) (now mem) ⌝ }
+    ensures { λ r. ⌜ Whole (r .part) (now (mem .exit)) ⌝ }
+{
     let line = b.line;
     if 0 < line.len {
-        let last = answer_line(b, mem, out);
-        return stop(last, out);
+        return stop(answer_block(b, b"\n", mem, out));
     }
-    stop(b, out)
+    stop(b)
 }
 
 // One read, of what is there, and the answers to its lines.
-fn turn(b: Bench, block: &mut [u8], mem: &mut [u8], out: &mut [u8]) -> Bench {
+fn turn(b: Bench, block: &mut [u8], mem: &mut [u8], out: &mut [u8]) -> Bench
+    requires { ⌜ Whole (b .part) (now mem) ⌝ }
+    ensures { λ r. ⌜ Whole (r .part) (now (mem .exit)) ⌝ }
+{
     let got = libc::read(STDIN_FILENO, block);
     let n = io::count(got, block);
     if n == 0 {
@@ -191,16 +248,20 @@ fn turn(b: Bench, block: &mut [u8], mem: &mut [u8], out: &mut [u8]) -> Bench {
     answer_block(b, &block[..n], mem, out)
 }
 
-fn begin(out: &mut [u8]) -> Bench {
+fn begin(out: &mut [u8]) -> Bench
+    ensures { λ r. ⌜ partIn (r .part) ≡ true ⌝ }
+{
     let waiting = script::write_header(out, 0);
-    let b = Bench {
-        part: Part::new(),
-        step: 0,
-        line: no_line(),
+    let header = Output {
         waiting,
         running: true,
     };
-    flush(b, out)
+    Bench {
+        part: Part::new(),
+        step: 0,
+        line: no_line(),
+        output: flush(header, out),
+    }
 }
 
 // A proved loop has to end, and nothing says that the input does: it counts its turns down, from a number that no run uses up.
@@ -210,7 +271,7 @@ fn main() {
     let mut mem = [0u8; 13056];
     let mut b = begin(&mut out);
     let mut turns = u64::MAX;
-    while turns > 0 && b.running {
+    while turns > 0 && b.output.running {
         b = turn(b, &mut block, &mut mem, &mut out);
         turns -= 1;
     }

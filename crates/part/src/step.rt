@@ -154,6 +154,15 @@ impl Part {
         if len == 13056 { self.in_range() } else { false }
     }
 
+    // A step of a part and a memory that no. 9 does not refuse, for a caller that knows it.
+    pub fn advance(self, mem: &mut [u8], s: Step) -> PartStepped
+        requires { ⌜ Whole self (now mem) ⌝ }
+        ensures { λ r. ⌜ (r ≡ partStep self (now (mem .entry)) s) × (now (mem .exit) ≡ partBytes self (now (mem .entry)) s) ⌝ }
+    {
+        let t = target_of(s);
+        self.serve(mem, t)
+    }
+
     // One step of the part, at any record and any memory.
     pub fn step(self, mem: &mut [u8], s: Step) -> PartStepped
         ensures { λ r. ⌜ (r ≡ partStep self (now (mem .entry)) s) × (now (mem .exit) ≡ partBytes self (now (mem .entry)) s) ⌝ }
@@ -161,7 +170,6 @@ impl Part {
         if !self.accepts_len(mem.len()) {
             return self.refuse(9);
         }
-        let t = target_of(s);
-        self.serve(mem, t)
+        self.advance(mem, s)
     }
 }

@@ -1,4 +1,5 @@
--- `bench::main` is safe, and ends.
+-- `bench::main` meets its contract: each turn leaves what no. 9 asks.
+use Rattle.part.specs.Step.{Whole}
 use borrow.Author.Needs.{needs}
 use lib.ListN.{length}
 use mathlib.Core.Path.{_≡_}
@@ -6,7 +7,7 @@ use Rattle.bench.proofs.main.Statement.{statement}
 use Rattle.bench.proofs.main.Tie as tie
 
 abbrev Inv-loop : tie.InvT-loop
-Inv-loop block₀ out₀ mem₀ b₀ turns₀ block out mem b turns = (length block ≡ 65536) × (length out ≡ 65536) × (length mem ≡ 13056)
+Inv-loop block₀ out₀ mem₀ b₀ turns₀ block out mem b turns = (length block ≡ 65536) × (length out ≡ 65536) × Whole (b .part) mem
 
 abbrev μ-loop : tie.MeasureT-loop
 μ-loop block₀ out₀ mem₀ b₀ turns₀ block out mem b turns = turns
@@ -17,17 +18,17 @@ main-spec =
     (tie.spec
     Inv-loop
     μ-loop
+    (λ c. λ κs. search needs)
+    (λ c. λ κs. search needs)
+    (λ c. search needs)
+    (λ c. λ κs. search needs)
+    (λ c. (search needs, search needs, record { ranged = c .before .begin .ensures; whole = search needs }))
     (λ c. search needs)
     (λ c. search needs)
     (λ c. search needs)
+    (λ c. λ κs. c .before .before .before .before .before .loop .inv .2)
     (λ c. search needs)
     (λ c. search needs)
-    (λ c. search needs)
-    (λ c. search needs)
-    (λ c. search needs)
-    (λ c. search needs)
-    (λ c. search needs)
-    (λ c. search needs)
-    (λ c. search needs)
+    (λ c. (search needs, search needs, c .before .before .before .turn .ensures))
     (λ c. search needs)
     (λ c. search needs))

@@ -1,5 +1,5 @@
--- `bench::perform` meets its contract: where the line was read, it is not one that can't be.
-use Rattle.bench.proofs.Laws.Lines.{not-both}
+-- `bench::perform` meets its contract: a step of the part keeps what no. 9 asks.
+use Rattle.part.specs.Laws.Kept.{whole-kept}
 use borrow.Author.Needs.{needs}
 use Rattle.bench.proofs.perform.Statement.{statement}
 use Rattle.bench.proofs.perform.Tie as tie
@@ -9,12 +9,9 @@ perform-spec =
     tie.close
     (tie.spec
     (λ c. search needs)
+    (λ c. λ κs. search needs)
     (λ c. search needs)
+    (λ c. λ κs. search needs)
     (λ c. search needs)
-    (λ c. search needs)
-    (λ c. search needs)
-    (λ c. search needs)
-    (λ c. λ h.
-    let s = c .before .before .before .before .before in
-    absurd (not-both _ _ _ (s .before .before .read .ensures) (s .s .given .1) h))
-    (λ c. search needs))
+    (λ c. (rw (c .before .before .before .before .before .line .given .1) (c .before .before .advance .ensures .0), rw (c .before .before .before .before .before .line .given .1) (c .before .before .advance .ensures .1), rw (c .before .before .advance .ensures .0, c .before .before .advance .ensures .1) (whole-kept _ _ _ (c .before .before .before .before .before .before .before .before .pre))))
+    (λ c. (rw (c .before .enum-told .given .1, c .unreadable .ensures), rw (c .before .enum-told .given .1), c .before .before .before .before .pre)))

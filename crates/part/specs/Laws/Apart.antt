@@ -3,16 +3,19 @@ use Prim.Native.Nat.{ℕ, _<_}
 use mathlib.Core.Bool.{Bool, true, false}
 use mathlib.Core.List.{List}
 use mathlib.Core.Path.{_≡_, refl, sym}
+use lib.Dec.{eqb}
 use lib.ListN.{length}
 use lib.Seq.{getD-set-other}
+use Rattle.laws.specs.Pick.{if_then_else_}
 use Rattle.channel.specs.declared.step.Op.{Op}
+use Rattle.channel.specs.declared.step.Op.the-variants.{Write, Read, Wire}
 use Rattle.channel.specs.Step.{servedBy}
 use Rattle.part.specs.declared.map.Step.{Step}
 use Rattle.part.specs.declared.map.Target.the-variants.{One}
 use Rattle.part.specs.declared.state.Part.{Part}
 use Rattle.part.specs.State.{blank, chan, window}
 use Rattle.part.specs.Map.{targetOf}
-use Rattle.part.specs.Step.{oneStep, oneBytes, partServed, partStored, accepts, partStep, partBytes}
+use Rattle.part.specs.Step.{beAfter, keyKept, oneStep, oneBytes, partServed, partStored, accepts, partStep, partBytes}
 use Rattle.part.specs.Laws.Map.{one-in-part}
 use Rattle.part.specs.Laws.Memory.{fits, window-other}
 use Rattle.part.specs.Laws.Range.{accepts-whole, step-accepted, bytes-accepted, step-refused, bytes-refused}
@@ -24,8 +27,8 @@ pub record Others (c : ℕ) (p : Part) (m : List ℕ) (q : Part) (n : List ℕ) 
   pub windows : (d : ℕ) → (c ≡ d → ⊥) → window d n ≡ window d m
   pub mask : q .mask ≡ p .mask
 
-module _ (p : Part) (m : List ℕ) (s : Step) (c : ℕ) (op : Op) (is : targetOf s ≡ One c op) where
-  one-others : length m ≡ 13056 → c < 3 → Others c p m (oneStep p m c op .part) (oneBytes p m c op)
+module _ (p : Part) (m : List ℕ) (c : ℕ) (op : Op) where
+  pub one-others : length m ≡ 13056 → c < 3 → Others c p m (oneStep p m c op .part) (oneBytes p m c op)
   unfolding oneStep oneBytes
   one-others whole h = record {
     records = λ d ne. getD-set-other (p .channels) c d (servedBy (chan p c) (window c m) c op .channel) blank (λ e. ne (sym e));
@@ -33,14 +36,40 @@ module _ (p : Part) (m : List ℕ) (s : Step) (c : ℕ) (op : Op) (is : targetOf
     mask = refl;
   }
 
-  served-others : length m ≡ 13056 → Others c p m (partServed p m (targetOf s) .part) (partStored p m (targetOf s))
-  unfolding partServed partStored
-  served-others whole = rw is (one-others whole (one-in-part s c op is))
+  module _ (s : Step) (is : targetOf s ≡ One c op) where
+    served-others : length m ≡ 13056 → Others c p m (partServed p m (targetOf s) .part) (partStored p m (targetOf s))
+    unfolding partServed partStored
+    served-others whole = rw is (one-others whole (one-in-part s c op is))
 
-  others : (b : Bool) → accepts p (length m) ≡ b → Others c p m (partStep p m s .part) (partBytes p m s)
-  others true e = rw (step-accepted p m s e, bytes-accepted p m s e) (served-others (accepts-whole p m e .whole))
-  others false e = rw (step-refused p m s e, bytes-refused p m s e) (record { records = λ d ne. refl; windows = λ d ne. refl; mask = refl })
+    others : (b : Bool) → accepts p (length m) ≡ b → Others c p m (partStep p m s .part) (partBytes p m s)
+    others true e = rw (step-accepted p m s e, bytes-accepted p m s e) (served-others (accepts-whole p m e .whole))
+    others false e = rw (step-refused p m s e, bytes-refused p m s e) (record { records = λ d ne. refl; windows = λ d ne. refl; mask = refl })
 
-  -- A CHANNEL'S STEP LEAVES THE OTHERS
-  pub leaves-others : Others c p m (partStep p m s .part) (partBytes p m s)
-  leaves-others = others (accepts p (length m)) refl
+    -- A CHANNEL'S STEP LEAVES THE OTHERS
+    pub leaves-others : Others c p m (partStep p m s .part) (partBytes p m s)
+    leaves-others = others (accepts p (length m)) refl
+
+-- ---- of what the channels share, no step tells which of two came first
+
+-- BE is only ever set
+pub be-swap : (be : Bool) (x y : ℕ) → beAfter (beAfter be x) y ≡ beAfter (beAfter be y) x
+unfolding beAfter if_then_else_
+be-swap be x y = both-set (eqb x 5) (eqb y 5)
+  where
+    both-set : (a b : Bool) → (if b then true else (if a then true else be)) ≡ (if a then true else (if b then true else be))
+    both-set true true = refl
+    both-set true false = refl
+    both-set false true = refl
+    both-set false false = refl
+
+-- CTRLPRESET's key is only ever forgotten
+pub key-swap : (x y : Op) (key : Bool) → keyKept y (keyKept x key) ≡ keyKept x (keyKept y key)
+key-swap (Write a v) (Write b w) key = refl
+key-swap (Write a v) (Read b) key = refl
+key-swap (Write a v) (Wire e) key = refl
+key-swap (Read a) (Write b w) key = refl
+key-swap (Read a) (Read b) key = refl
+key-swap (Read a) (Wire e) key = refl
+key-swap (Wire e) (Write b w) key = refl
+key-swap (Wire e) (Read b) key = refl
+key-swap (Wire e) (Wire f) key = refl

@@ -24,7 +24,7 @@ use Rattle.part.specs.declared.state.PartStepped.{PartStepped}
 use Rattle.part.specs.State.{blank, chan, freshPart, wiped, window, withKey}
 use Rattle.part.specs.Map.{targetOf, InPart}
 use Rattle.part.specs.Registers.{ctrlKept, ctrlRead, ctrlWritten, ctrlKeyAfter, ctrlResets, ctrlPut, ctrlStore}
-use Rattle.part.specs.Step.{edgeChannel, oneStep, oneBytes, triggerStep, partServed, partStored, channelsIn, maskIn, partIn, accepts, partStep, partBytes}
+use Rattle.part.specs.Step.{edgeChannel, oneStep, oneBytes, triggerStep, partServed, partStored, channelsIn, maskIn, partIn, accepts, partStep, partBytes, Whole}
 use Rattle.part.specs.Laws.Map.{in-part}
 use Rattle.part.specs.Laws.Memory.{fits, length-window, length-put}
 use Rattle.part.specs.Laws.Range.{accepts-whole}
@@ -105,6 +105,11 @@ module _ (p : Part) (h : In p) where
   served-in m AllReset = fresh-in
   served-in m Beyond = h
 
+-- a channel's step does not
+pub one-in-range : (p : Part) (m : List ℕ) (c : ℕ) (op : Op) → partIn p ≡ true → partIn (oneStep p m c op .part) ≡ true
+unfolding Good
+one-in-range p m c op e = of-in _ (one-in p (in-of p e) m c op)
+
 -- NO STEP LEADS OUT OF RANGE
 pub part-stays-in-range : (p : Part) (m : List ℕ) (s : Step) → partIn p ≡ true → partIn (partStep p m s .part) ≡ true
 unfolding partStep Good
@@ -128,9 +133,13 @@ module _ (p : Part) (m : List ℕ) (whole : length m ≡ 13056) where
   pub one-length : (c : ℕ) (op : Op) → c < 3 → length (servedStore (chan p c) (window c m) c op) ≡ 4352
   one-length c op h = let w = length-window c m (fits c m h whole) in served-length (chan p c) (window c m) c w op ∙ w
 
+  pub one-bytes-length : (c : ℕ) (op : Op) → c < 3 → length (oneBytes p m c op) ≡ length m
+  unfolding oneBytes
+  one-bytes-length c op h = length-put c _ m (one-length c op h) (fits c m h whole)
+
   stored-length : (t : Target) → InPart t → Same m (partStored p m t)
-  unfolding partStored oneBytes ctrlStore Same
-  stored-length (One c op) h = length-put c _ m (one-length c op h) (fits c m h whole)
+  unfolding partStored ctrlStore Same
+  stored-length (One c op) h = one-bytes-length c op h
   stored-length (CtrlWrite reg v) h = pick-holds (Same m) (ctrlResets reg v (p .key)) (λ _. wiped-length ∙ sym whole) (λ _. refl)
   stored-length (CtrlRead reg) h = refl
   stored-length (AllTrigger edge) h = refl
@@ -143,3 +152,7 @@ part-length p m s =
     pick-holds (Same m) (accepts p (length m))
     (λ t. stored-length p m (accepts-whole p m t .whole) (targetOf s) (in-part s))
     (λ _. refl)
+
+-- ---- what no. 9 does not refuse, it does not refuse after a step either
+pub whole-kept : (p : Part) (m : List ℕ) (s : Step) → Whole p m → Whole (partStep p m s .part) (partBytes p m s)
+whole-kept p m s w = record { ranged = part-stays-in-range p m s (w .ranged); whole = part-length p m s ∙ w .whole }

@@ -36,3 +36,9 @@ length-put c l m = windows.length-put (4352 * c) 4352 l m
 pub window-other : (c d : ℕ) (l m : List ℕ) → length l ≡ 4352 → 4352 * c + 4352 ≤ length m → (c ≡ d → ⊥) → window d (putWindow c l m) ≡ window d m
 unfolding window putWindow
 window-other c d l m e h ne = windows.cut-put-other (4352 * c) (4352 * d) 4352 l m e h (clear c d ne)
+
+-- two channels' bytes are put in either order
+pub put-put : (c d : ℕ) (l k m : List ℕ) → length l ≡ 4352 → length k ≡ 4352 → 4352 * c + 4352 ≤ length m → 4352 * d + 4352 ≤ length m → (c ≡ d → ⊥)
+    → putWindow d k (putWindow c l m) ≡ putWindow c l (putWindow d k m)
+unfolding putWindow
+put-put c d l k m e f h g ne = windows.put-put (4352 * c) (4352 * d) 4352 l k m e f h g (clear c d ne)

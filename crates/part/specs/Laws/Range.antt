@@ -4,10 +4,10 @@ use mathlib.Core.Bool.{true, false}
 use mathlib.Core.List.{List, [], _∷_}
 use mathlib.Core.Path.{_≡_}
 use native.Mathlib.Nat.{not-suc-le-zero, le-of-suc-le-suc}
-use borrow.Author.Tests.{eqb-true}
+use borrow.Author.Tests.{eqb-true, eq-eqb}
 use lib.ListN.{length, getD}
 use Rattle.laws.specs.Pick.{if_then_else_}
-use Rattle.laws.specs.Cases.{both}
+use Rattle.laws.specs.Cases.{both, with}
 use Rattle.channel.specs.declared.state.Channel.{Channel}
 use Rattle.channel.specs.Range.{inRange}
 use Rattle.part.specs.declared.map.Step.{Step}
@@ -34,6 +34,10 @@ mask-of p e = both _ _ e .1
 pub accepts-whole : (p : Part) (m : List ℕ) → accepts p (length m) ≡ true → Whole p m
 unfolding accepts
 accepts-whole p m e = let b = both _ _ e in record { ranged = b .1; whole = eqb-true _ _ (b .0) }
+
+pub whole-accepts : (p : Part) (m : List ℕ) → Whole p m → accepts p (length m) ≡ true
+unfolding accepts
+whole-accepts p m w = with _ _ (eq-eqb _ _ (w .whole)) (w .ranged)
 
 -- ---- a step by whether no. 9 refuses it
 module _ (p : Part) (m : List ℕ) (s : Step) where

@@ -1,0 +1,61 @@
+-- DEMAND 3 of document 01: the three channels do not disturb each other. 'From any accepted state, any mix of three channels' step lists (each in
+-- its own order, no whole-part step) gives each step the same answer and action, and ends in the same state, memory and interrupt level, as
+-- list 0, then 1, then 2.'
+-- A reader has to believe this page, the page of mixes and runs (crate mixes, specs/Mix.antt), and the rules of a step that the contract of
+-- `Part::step` cites (crate part, specs/Step.antt: partStep, partBytes). Theorem.antt says `independent` of every state and mix; that file's
+-- last lines and all of Laws/ are proof.
+use Prim.Native.Nat.{ℕ}
+use mathlib.Core.Bool.{true}
+use mathlib.Core.List.{List, _++_}
+use mathlib.Core.Path.{_≡_}
+use lib.ListN.{length}
+use Rattle.mixes.specs.Mix.{Mix, Machine, ends, log, only}
+use Rattle.channel.specs.declared.step.Op.{Op}
+use Rattle.part.specs.declared.map.Step.{Step}
+use Rattle.part.specs.declared.map.Target.{Target}
+use Rattle.part.specs.declared.map.Target.the-variants.{One, CtrlWrite, CtrlRead, AllTrigger, AllReset, Beyond}
+use Rattle.part.specs.declared.state.Part.{Part}
+use Rattle.part.specs.declared.state.PartAnswer.{PartAnswer}
+use Rattle.part.specs.Map.{targetOf}
+use Rattle.part.specs.Registers.{interruptOf}
+use Rattle.part.specs.Step.{accepts, partStep, partBytes}
+
+-- a state: the part and the lent memory
+pub record State : Type 0 where
+  pub part : Part
+  pub memory : List ℕ
+
+-- an accepted state: no. 9 does not refuse it, so it is in range and has 13,056 bytes
+abbrev pub Accepted : State → Type 0
+Accepted s = accepts (s .part) (length (s .memory)) ≡ true
+
+-- a step of channel c; there is none where the step is one of the whole part
+pub record OfChannel (c : ℕ) (a : Step) : Type 0 where
+  pub op : Op
+  pub is : targetOf a ≡ One c op
+
+-- the channel that a step is of, and 3 where it is one of the whole part
+abbrev pub ownerOf : Target → ℕ
+ownerOf (One c op) = c
+ownerOf (CtrlWrite reg v) = 3
+ownerOf (CtrlRead reg) = 3
+ownerOf (AllTrigger edge) = 3
+ownerOf AllReset = 3
+ownerOf Beyond = 3
+
+-- the part as a machine, by the rules that its step is proved to follow; an answer is a number, a value and an action for each channel
+abbrev pub thePart : Machine State Step PartAnswer
+thePart = record {
+  answer = λ s a. partStep (s .part) (s .memory) a .answer;
+  after = λ s a. record { part = partStep (s .part) (s .memory) a .part; memory = partBytes (s .part) (s .memory) a };
+  owner = λ a. ownerOf (targetOf a);
+}
+
+-- m, which mixes the lists k, l and n of channels 0, 1 and 2, against k, then l, then n: the same part and memory at the end (`state`), the same
+-- interrupt level, and for each step the same answer and action, said twice: each channel's own log is the same (`answers`), and the log of the
+-- mixed run is a mix of the logs of the three lists, run one after another (`places`)
+pub record Independent (s : State) (k l n m : List Step) : Type 0 where
+  pub state : ends thePart s m ≡ ends thePart s (k ++ (l ++ n))
+  pub level : interruptOf (ends thePart s m .part) ≡ interruptOf (ends thePart s (k ++ (l ++ n)) .part)
+  pub answers : (c : ℕ) → only thePart c (log thePart s m) ≡ only thePart c (log thePart s (k ++ (l ++ n)))
+  pub places : Mix (Step × PartAnswer) (log thePart s k) (log thePart (ends thePart s k) l) (log thePart (ends thePart (ends thePart s k) l) n) (log thePart s m)

@@ -1,0 +1,1 @@
+// The three channels do not disturb each other: statement and proof only, no code.

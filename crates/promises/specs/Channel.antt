@@ -1,0 +1,34 @@
+-- No second outcome of crate channel: for each public function, two outcomes that satisfy its promise are equal. The promise is its `ensures` clause,
+-- letter by letter: a lent slice `mem` is written for its bytes at entry, and `mem′` for those at exit.
+use Prim.Native.Nat.{ℕ}
+use mathlib.Core.Bool.{Bool}
+use mathlib.Core.List.{List}
+use mathlib.Core.Path.{_≡_}
+use Rattle.channel.specs.declared.state.Channel.{Channel}
+use Rattle.channel.specs.declared.state.Stepped.{Stepped}
+use Rattle.channel.specs.declared.step.Op.{Op}
+use Rattle.sequence.specs.declared.wires.Edge.{Edge}
+use Rattle.channel.specs.Range.{inRange}
+use Rattle.channel.specs.State.{fresh}
+use Rattle.channel.specs.Step.{servedBy, servedStore, stepOf, bytesAfter}
+use Rattle.channel.specs.Wires.{triggered}
+use Rattle.promises.specs.Promise.{Once, no-second, both}
+
+-- ---- range.rt
+pub in-range-once : (self : Channel) → Once Bool (λ r. r ≡ inRange self)
+in-range-once self = no-second (λ r h. h)
+
+-- ---- state.rt
+pub new-once : Once Channel (λ r. r ≡ fresh)
+new-once = no-second (λ r h. h)
+
+-- ---- step.rt
+pub serve-once : (self : Channel) (number : ℕ) (mem : List ℕ) (op : Op) → Once (Stepped × List ℕ) (λ (r, mem′). (r ≡ servedBy self mem number op) × (mem′ ≡ servedStore self mem number op))
+serve-once self number mem op = no-second (λ o h. both (h .0) (h .1))
+
+pub step-once : (self : Channel) (number : ℕ) (mem : List ℕ) (op : Op) → Once (Stepped × List ℕ) (λ (r, mem′). (r ≡ stepOf self mem number op) × (mem′ ≡ bytesAfter self mem number op))
+step-once self number mem op = no-second (λ o h. both (h .0) (h .1))
+
+-- ---- wires.rt
+pub trigger-once : (self : Channel) (edge : Edge) → Once Stepped (λ r. r ≡ triggered self edge)
+trigger-once self edge = no-second (λ r h. h)

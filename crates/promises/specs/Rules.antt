@@ -1,0 +1,115 @@
+-- No second outcome of crate rules: for each public function, two outcomes that satisfy its promise are equal. The promise is its `ensures` clause,
+-- letter by letter: a lent slice `mem` is written for its bytes at entry, and `mem′` for those at exit.
+use Prim.Native.Nat.{ℕ, _<_, _≤_, _*_}
+use mathlib.Core.Bool.{Bool}
+use mathlib.Core.List.{List}
+use mathlib.Core.Path.{_≡_}
+use Rattle.rules.specs.declared.registers.Command.{Command}
+use Rattle.rules.specs.declared.registers.Place.{Place}
+use Rattle.rules.specs.declared.registers.Register.{Register}
+use Rattle.rules.specs.declared.state.Flags.{Flags}
+use Rattle.rules.specs.declared.state.Phase.{Phase}
+use Rattle.rules.specs.declared.state.Ptrs.{Ptrs}
+use Rattle.rules.specs.declared.state.Walk.{Walk}
+use Rattle.rules.specs.Access.{busyRefusal, pastRefusal, placeRefusal, slaRefusal, confRefusal, dataRefusal, selRefusal, keptIf, rewound, pointedAt, overrunOf, keyAfter, resetsOf}
+use Rattle.rules.specs.Range.{pointersIn, registersIn, walkIn, frameIn}
+use Rattle.rules.specs.Registers.{placeOf, KnownPlace, activeOf, bitOf, commandOf, weigh, controlValue, chstatusValue, maskKept}
+use Rattle.rules.specs.Tables.{startOf, fitting, readsOf, firstSent, marked}
+use Rattle.promises.specs.Promise.{Once, no-second}
+
+-- ---- access.rt
+pub busy-refusal-once : (p : Phase) → Once ℕ (λ r. r ≡ busyRefusal p)
+busy-refusal-once p = no-second (λ r h. h)
+
+pub past-refusal-once : (last at : ℕ) → Once ℕ (λ r. r ≡ pastRefusal last at)
+past-refusal-once last at = no-second (λ r h. h)
+
+pub place-refusal-once : (at : ℕ) → Once ℕ (λ r. r ≡ placeRefusal at)
+place-refusal-once at = no-second (λ r h. h)
+
+pub sla-refusal-once : (p : Phase) (at : ℕ) → Once ℕ (λ r. r ≡ slaRefusal p at)
+sla-refusal-once p at = no-second (λ r h. h)
+
+pub conf-refusal-once : (p : Phase) (at v : ℕ) → Once ℕ (λ r. r ≡ confRefusal p at v)
+conf-refusal-once p at v = no-second (λ r h. h)
+
+pub data-refusal-once : (p : Phase) (at : ℕ) → Once ℕ (λ r. r ≡ dataRefusal p at)
+data-refusal-once p at = no-second (λ r h. h)
+
+pub sel-refusal-once : (lens : List ℕ) (v : ℕ) → Once ℕ (λ r. r ≡ selRefusal lens v)
+sel-refusal-once lens v = no-second (λ r h. h)
+
+pub kept-if-once : (active old new : Bool) → Once Bool (λ r. r ≡ keptIf active old new)
+kept-if-once active old new = no-second (λ r h. h)
+
+pub rewind-once : (reset : Bool) (at : ℕ) → Once ℕ (λ r. r ≡ rewound reset at)
+rewind-once reset at = no-second (λ r h. h)
+
+pub point-at-once : (aiptrrst : Bool) (place at : ℕ) → Once ℕ (λ r. r ≡ pointedAt aiptrrst place at)
+point-at-once aiptrrst place at = no-second (λ r h. h)
+
+pub overrun-once : (aiptrrst : Bool) (place : ℕ) → Once Bool (λ r. r ≡ overrunOf aiptrrst place)
+overrun-once aiptrrst place = no-second (λ r h. h)
+
+pub key-after-once : (reg : Register) (v : ℕ) → Once Bool (λ r. r ≡ keyAfter reg v)
+key-after-once reg v = no-second (λ r h. h)
+
+pub resets-once : (reg : Register) (v : ℕ) (key : Bool) → Once Bool (λ r. r ≡ resetsOf reg v key)
+resets-once reg v key = no-second (λ r h. h)
+
+-- ---- range.rt
+pub pointers-in-once : (p : Ptrs) → Once Bool (λ r. r ≡ pointersIn p)
+pointers-in-once p = no-second (λ r h. h)
+
+pub registers-in-once : (count transel intmsk : ℕ) → Once Bool (λ r. r ≡ registersIn count transel intmsk)
+registers-in-once count transel intmsk = no-second (λ r h. h)
+
+pub walk-in-once : (w : Walk) (te : Bool) (framecnt : ℕ) → Once Bool (λ r. r ≡ walkIn w te framecnt)
+walk-in-once w te framecnt = no-second (λ r h. h)
+
+pub frame-in-once : (p : Phase) (sla lens counts : List ℕ) → Once Bool (λ r. r ≡ frameIn p sla lens counts)
+frame-in-once p sla lens counts = no-second (λ r h. h)
+
+-- ---- registers.rt
+pub place-of-once : (c a : ℕ) → Once Place (λ r. (r ≡ placeOf c a) × KnownPlace r)
+place-of-once c a = no-second (λ r h. h .0)
+
+pub active-once : (p : Phase) → Once Bool (λ r. r ≡ activeOf p)
+active-once p = no-second (λ r h. h)
+
+pub bit-once : (v w : ℕ) → Once Bool (λ r. r ≡ bitOf v w)
+bit-once v w = no-second (λ r h. h)
+
+pub command-of-once : (v : ℕ) → Once Command (λ r. r ≡ commandOf v)
+command-of-once v = no-second (λ r h. h)
+
+pub weight-once : (b : Bool) (w : ℕ) → Once ℕ (λ r. (r ≡ weigh b w) × (r ≤ w))
+weight-once b w = no-second (λ r h. h .0)
+
+pub control-value-once : (seq sta sto tp te : Bool) → Once ℕ (λ r. r ≡ controlValue seq sta sto tp te)
+control-value-once seq sta sto tp te = no-second (λ r h. h)
+
+pub chstatus-value-once : (f : Flags) → Once ℕ (λ r. r ≡ chstatusValue f)
+chstatus-value-once f = no-second (λ r h. h)
+
+pub mask-kept-once : (v : ℕ) → Once ℕ (λ r. r ≡ maskKept v)
+mask-kept-once v = no-second (λ r h. h)
+
+-- ---- tables.rt
+pub byte-once : (x : ℕ) → Once ℕ (λ r. (r ≡ x) × (r < 256))
+byte-once x = no-second (λ r h. h .0)
+
+pub start-of-once : (lens : List ℕ) (v : ℕ) → Once ℕ (λ r. (r ≡ startOf lens v) × (r ≤ 255 * v))
+start-of-once lens v = no-second (λ r h. h .0)
+
+pub fits-once : (lens : List ℕ) (count : ℕ) → Once Bool (λ r. r ≡ fitting lens count)
+fits-once lens count = no-second (λ r h. h)
+
+pub reads-once : (sla : ℕ) → Once Bool (λ r. r ≡ readsOf sla)
+reads-once sla = no-second (λ r h. h)
+
+pub first-sent-once : (sla lens : List ℕ) (from count : ℕ) → Once ℕ (λ r. (r ≡ firstSent sla lens from count) × (from ≤ r) × (r ≤ count))
+first-sent-once sla lens from count = no-second (λ r h. h .0)
+
+pub mark-once : (status : List ℕ) (from to : ℕ) → Once (List ℕ) (λ status′. status′ ≡ marked status from to)
+mark-once status from to = no-second (λ r h. h)

@@ -1,0 +1,26 @@
+-- No second outcome of crate script: for each public function, two outcomes that satisfy its promise are equal. The promise is its `ensures` clause,
+-- letter by letter: a lent slice `mem` is written for its bytes at entry, and `mem′` for those at exit.
+use Prim.Native.Nat.{ℕ}
+use mathlib.Core.Bool.{Bool}
+use mathlib.Core.List.{List}
+use mathlib.Core.Path.{_≡_}
+use lib.ListN.{length}
+use Rattle.part.specs.declared.state.PartAnswer.{PartAnswer}
+use Rattle.script.specs.declared.reading.Line.{Line}
+use Rattle.script.specs.Answer.{Put, answerLine, header, roomy, textIf, noAnswer}
+use Rattle.script.specs.Grammar.{lineOf}
+use Rattle.promises.specs.Promise.{Once, no-second, both}
+
+-- ---- reading.rt
+pub read-line-once : (line : List ℕ) → Once Line (λ r. r ≡ lineOf line)
+read-line-once line = no-second (λ r h. h)
+
+-- ---- writing.rt
+pub write-header-once : (out : List ℕ) (at : ℕ) → Once (ℕ × List ℕ) (λ (r, out′). Put out at (textIf (roomy (length out) at) header) r out′)
+write-header-once out at = no-second (λ o h. both (h .place) (h .bytes))
+
+pub write-answer-once : (step : ℕ) (reply : PartAnswer) (int : Bool) (out : List ℕ) (at : ℕ) → Once (ℕ × List ℕ) (λ (r, out′). Put out at (textIf (roomy (length out) at) (answerLine step reply int)) r out′)
+write-answer-once step reply int out at = no-second (λ o h. both (h .place) (h .bytes))
+
+pub unreadable-once : Once PartAnswer (λ r. r ≡ noAnswer)
+unreadable-once = no-second (λ r h. h)
