@@ -1,0 +1,19 @@
+-- `states::step_part` is safe: a part of `n` bytes has `n` bytes.
+use borrow.Author.Needs.{needs}
+use mathlib.Core.Path.{sym}
+use lib.Seq.{length-take-le}
+use Rattle.states.proofs.step_part.Statement.{statement}
+use Rattle.states.proofs.step_part.Tie as tie
+
+pub step-part-spec : {M : Type 1} → statement M
+step-part-spec =
+    tie.close
+    (tie.spec
+    (λ c. search needs)
+    (λ c. search needs)
+    (λ c. search needs)
+    (λ c. search needs)
+    (λ c. sym (length-take-le (c .before .before .before .args .n) (c .before .before .before .args .mem .now) (search needs)))
+    (λ c. search needs)
+    (λ c. search needs)
+    (λ c. search needs))

@@ -1,0 +1,1098 @@
+/*
+ * Random scripts: generate SEED STEPS. The model is embedded to know which
+ * events are awaited. Each channel follows plans (configure, start, feed till
+ * the end, read back); noise goes between at a rate that the seed decides.
+ */
+#define MODEL_NO_MAIN
+#include "model.c"
+
+/* ---- Random numbers ---------------------------------------------------- */
+
+static uint64_t rng;
+
+static uint64_t next_random(void)
+{
+    uint64_t z = rng += 0x9E3779B97F4A7C15u;
+    z = (z ^ (z >> 30)) * 0xBF58476D1CE4E5B9u;
+    z = (z ^ (z >> 27)) * 0x94D049BB133111EBu;
+    return z ^ (z >> 31);
+}
+
+/* 0 to n - 1 */
+static unsigned below(unsigned n)
+{
+    return (unsigned)((next_random() >> 32) * n >> 32);
+}
+
+static unsigned between(unsigned low, unsigned high)
+{
+    return low + below(high - low + 1);
+}
+
+static int one_in(unsigned n)
+{
+    return below(n) == 0;
+}
+
+static int per_mille(unsigned n)
+{
+    return below(1000) < n;
+}
+
+static uint8_t any_byte(void)
+{
+    static const uint8_t liked[] = {
+        0x00, 0x01, 0x02, 0x08, 0x10, 0x11, 0x12, 0x20, 0x30, 0x3F, 0x40,
+        0x41, 0x42, 0x48, 0x58, 0x5A, 0x60, 0x80, 0xA0, 0xA5, 0xC0, 0xFE, 0xFF
+    };
+    if (one_in(2))
+        return (uint8_t)below(256);
+    return liked[below(sizeof liked)];
+}
+
+/* ---- Output: every line is also run, so the state is known ------------- */
+
+static struct part part;
+static uint64_t wanted, made;
+static int last_without_lf;
+
+static void emit(const void *line, size_t n)
+{
+    if (made == wanted)
+        return;
+    made++;
+    fwrite(line, 1, n, stdout);
+    if (made < wanted || !last_without_lf || n == 0)
+        putchar('\n');
+    run_step(&part, line, n);
+}
+
+static void emit_text(const char *line)
+{
+    emit(line, strlen(line));
+}
+
+/* ---- Plans ------------------------------------------------------------- */
+
+enum { LINE = 16, QUEUE = 12000 };
+
+enum stage { NEW, FEED };
+
+struct plan {
+    enum stage stage;
+    unsigned n;             /* transactions */
+    uint8_t len[ENTRIES], sla[ENTRIES];
+    uint8_t framecnt, intmsk, te, tp;
+    unsigned nack;          /* per mille, at each place for one */
+    unsigned late;          /* per mille */
+    unsigned side;          /* per mille: reads, refused writes, stops */
+    unsigned frames;        /* begun from Waiting, at most */
+    unsigned budget;        /* events, at most */
+    unsigned hold;          /* turns that it lets others go first */
+    int held;               /* has done so in this Waiting */
+    int grow;               /* in Waiting, the count becomes n */
+    int full;               /* all data are written and read back */
+    int together;           /* no other line between those that wait */
+    unsigned again;         /* starts with the same tables */
+    char queue[QUEUE][LINE];
+    size_t first, last;     /* lines still to go out */
+};
+
+static struct plan plans[CHANNELS];
+
+static void push(struct plan *pl, const char *line)
+{
+    if (pl->last < QUEUE)
+        snprintf(pl->queue[pl->last++], LINE, "%s", line);
+}
+
+static void push_write(unsigned c, unsigned reg, unsigned value)
+{
+    char line[LINE];
+    snprintf(line, sizeof line, "W %02X %02X", (0xC0u + 16 * c + reg) & 0xFF,
+             value & 0xFF);
+    push(&plans[c], line);
+}
+
+static void push_read(unsigned c, unsigned reg)
+{
+    char line[LINE];
+    snprintf(line, sizeof line, "R %02X", (0xC0u + 16 * c + reg) & 0xFF);
+    push(&plans[c], line);
+}
+
+static void push_read_at(unsigned c, unsigned address)
+{
+    char line[LINE];
+    snprintf(line, sizeof line, "R %02X", address & 0xFF);
+    push(&plans[c], line);
+}
+
+static void push_write_at(unsigned c, unsigned address, unsigned value)
+{
+    char line[LINE];
+    snprintf(line, sizeof line, "W %02X %02X", address & 0xFF, value & 0xFF);
+    push(&plans[c], line);
+}
+
+static void push_event(unsigned c, const char *name)
+{
+    char line[LINE];
+    snprintf(line, sizeof line, "E %X %.8s", c & 15, name);
+    push(&plans[c], line);
+}
+
+static void push_byte(unsigned c)
+{
+    char line[LINE];
+    snprintf(line, sizeof line, "E %X BYTE %02X", c & 15, below(256));
+    push(&plans[c], line);
+}
+
+/* ---- Lengths and addresses --------------------------------------------- */
+
+static unsigned sum_of(const struct plan *pl)
+{
+    unsigned sum = 0;
+    for (unsigned t = 0; t < pl->n; t++)
+        sum += pl->len[t];
+    return sum;
+}
+
+static void fill(struct plan *pl, unsigned n, unsigned longest)
+{
+    pl->n = n;
+    for (unsigned t = 0; t < n; t++) {
+        pl->len[t] = (uint8_t)between(0, longest);
+        pl->sla[t] = one_in(4) ? (uint8_t)below(256)
+                               : (uint8_t)(0x40 + 2 * below(4) + below(2));
+    }
+}
+
+/* Lengths that sum to exactly that much; 18 to 64 entries */
+static void fill_exactly(struct plan *pl, unsigned sum)
+{
+    fill(pl, one_in(2) ? 18 : between(18, ENTRIES), 0);
+    if (pl->n == 18) {
+        for (unsigned t = 0; t < 17; t++)
+            pl->len[t] = 255;
+        pl->len[17] = (uint8_t)(sum - 17 * 255);
+        return;
+    }
+    for (unsigned left = sum; left > 0;) {
+        unsigned t = below(pl->n), room = 255u - pl->len[t];
+        unsigned add = room < left ? room : left;
+        if (add > 1 && one_in(2))
+            add = between(1, add);
+        pl->len[t] = (uint8_t)(pl->len[t] + add);
+        left -= add;
+    }
+}
+
+/* ---- Parts of a plan --------------------------------------------------- */
+
+/* Some plans in a row wait for the same edge. */
+static unsigned chorus;
+static uint8_t chorus_tp;
+
+static void choose_manner(struct plan *pl)
+{
+    static const uint8_t counts[] = { 1, 1, 1, 0, 2, 2, 3, 5 };
+    static const uint8_t masks[] = { 0x00, 0x00, 0x20, 0x10, 0x30, 0x01, 0x31 };
+    static const unsigned rates[] = { 0, 0, 10, 50, 200 };
+    pl->framecnt = one_in(20) ? (uint8_t)below(256)
+                              : counts[below(sizeof counts)];
+    pl->intmsk = one_in(6) ? (uint8_t)below(256) : masks[below(sizeof masks)];
+    pl->te = (uint8_t)one_in(3);
+    pl->tp = (uint8_t)one_in(2);
+    if (chorus > 0) {
+        chorus--;
+        pl->te = 1;
+        pl->tp = chorus_tp;
+    }
+    pl->nack = rates[below(5)];
+    pl->late = rates[below(4)];
+    pl->side = rates[below(5)];
+    pl->frames = between(1, 6);
+    pl->budget = one_in(30) ? 10000 : between(5, 400);
+    pl->held = 0;
+}
+
+static void push_tables(unsigned c)
+{
+    struct plan *pl = &plans[c];
+    if (!one_in(5))
+        push_write(c, R_TRANSEL, 0);
+    push_write(c, R_CONTROL, AIPTRRST | (one_in(3) ? BPTRRST : 0));
+    push_write(c, R_TRANCONFIG, pl->n);
+    for (unsigned t = 0; t < pl->n; t++)
+        push_write(c, R_TRANCONFIG, pl->len[t]);
+    for (unsigned t = 0; t < pl->n; t++)
+        push_write(c, R_SLATABLE, pl->sla[t]);
+}
+
+static void push_manner(unsigned c)
+{
+    struct plan *pl = &plans[c];
+    push_write(c, R_FRAMECNT, pl->framecnt);
+    push_write(c, R_INTMSK, pl->intmsk);
+    if (one_in(10))
+        push_write_at(c, R_CTRLINTMSK, below(256));
+    else if (one_in(5))
+        push_write_at(c, R_CTRLINTMSK, 0);
+    if (one_in(20))
+        push_write(c, between(R_REFRATE, R_TIMEOUT), below(256));
+}
+
+static void push_data(unsigned c, unsigned bytes)
+{
+    while (bytes-- > 0)
+        push_write(c, R_DATA, below(256));
+}
+
+static void push_start(unsigned c)
+{
+    struct plan *pl = &plans[c];
+    unsigned v = STA | (pl->te ? TE : 0) | (pl->tp ? TP : 0);
+    if (one_in(10))
+        v |= STO;
+    if (one_in(10))
+        v |= STOSEQ;
+    if (one_in(10))
+        v |= AIPTRRST;
+    if (one_in(10))
+        v |= BPTRRST;
+    if (one_in(10))
+        v |= 1;
+    push_write(c, R_CONTROL, v);
+    if (one_in(4))
+        push_read(c, R_CONTROL);
+}
+
+static void push_status_reads(unsigned c)
+{
+    unsigned n = plans[c].n < ENTRIES ? plans[c].n + 1 : ENTRIES;
+    for (unsigned t = 0; t < n; t++)
+        push_read_at(c, 64 * c + t);
+}
+
+static void push_bytecount_reads(unsigned c, unsigned n)
+{
+    push_write(c, R_CONTROL, BPTRRST);
+    for (unsigned t = 0; t < n; t++)
+        push_read(c, R_BYTECOUNT);
+}
+
+static void push_read_back(unsigned c)
+{
+    struct plan *pl = &plans[c];
+    unsigned sum = sum_of(pl);
+    if (!one_in(4)) {
+        if (int_pulled(&part) && one_in(2))
+            push_read_at(c, R_CTRLSTATUS);
+        push_read(c, R_CHSTATUS);
+    }
+    if (one_in(2))
+        push_read(c, R_CONTROL);
+    if (pl->n <= 8 || one_in(4))
+        push_status_reads(c);
+    if (pl->n <= 8 || one_in(4))
+        push_bytecount_reads(c, pl->n + below(2));
+    if (one_in(2)) {
+        push_write(c, R_TRANSEL, one_in(2) ? 0 : below(pl->n + 1));
+        for (unsigned i = 0; i < sum && i < 12; i++)
+            push_read(c, R_DATA);
+    }
+    if (pl->full) {
+        push_write(c, R_TRANSEL, 0);
+        for (unsigned i = 0; i <= sum; i++)
+            push_read(c, R_DATA);
+    }
+}
+
+/* ---- Plans by kind ----------------------------------------------------- */
+
+static void plan_frame(unsigned c)
+{
+    struct plan *pl = &plans[c];
+    unsigned sum;
+    push_tables(c);
+    push_manner(c);
+    if (one_in(3)) {
+        push_write(c, R_TRANSEL, below(pl->n + 1));
+        if (one_in(3))
+            push_write(c, R_TRANOFS, below(pl->n ? pl->len[0] + 2u : 2u));
+    }
+    sum = sum_of(pl);
+    if (pl->full)
+        push_data(c, sum + 1);
+    else if (sum > 3000)
+        push_data(c, below(20));
+    else
+        push_data(c, one_in(3) ? below(4) : sum);
+    push_start(c);
+}
+
+static void plan_small(unsigned c)
+{
+    fill(&plans[c], between(1, 5), between(0, 6));
+    plan_frame(c);
+}
+
+/* Reads of length 0 at the front, between, behind, or only these */
+static void plan_skips(unsigned c)
+{
+    struct plan *pl = &plans[c];
+    fill(pl, between(1, 8), 2);
+    for (unsigned t = 0; t < pl->n; t++)
+        if (!one_in(3)) {
+            pl->len[t] = 0;
+            pl->sla[t] |= 1;
+        }
+    if (one_in(3))
+        for (unsigned t = 0; t < pl->n; t++) {
+            pl->len[t] = 0;
+            pl->sla[t] |= 1;
+        }
+    plan_frame(c);
+}
+
+static void plan_many(unsigned c)
+{
+    fill(&plans[c], one_in(3) ? ENTRIES : between(20, ENTRIES), between(0, 3));
+    plan_frame(c);
+}
+
+static void plan_exact(unsigned c)
+{
+    fill_exactly(&plans[c], one_in(3) ? BUFFER + 1 : BUFFER);
+    plans[c].full = one_in(10);
+    plan_frame(c);
+    if (plans[c].full) {
+        plans[c].budget = 5000;
+        plans[c].nack = 0;
+        plans[c].side = 0;
+    } else {
+        plans[c].nack = 200;
+        plans[c].intmsk = 0x30;
+    }
+}
+
+/* A short frame first; in Waiting the count grows to one that fits just or
+ * just not. */
+static void plan_grow(unsigned c)
+{
+    struct plan *pl = &plans[c];
+    fill(pl, 20, 0);
+    memset(pl->len, 255, sizeof pl->len);
+    pl->len[0] = 1;
+    pl->len[1] = 0;
+    pl->len[19] = (uint8_t)(BUFFER - 1 - 17 * 255 + below(2));
+    pl->grow = 1;
+    pl->budget = between(40, 80);
+    pl->framecnt = one_in(2) ? 0 : (uint8_t)between(2, 4);
+    push_tables(c);
+    push_write(c, R_CONTROL, AIPTRRST);
+    push_write(c, R_TRANCONFIG, 2);
+    push_manner(c);
+    push_start(c);
+}
+
+/* The buffer's last byte on the wires: all but the last transaction refused,
+ * the last one fed to its end. */
+static void plan_last(unsigned c)
+{
+    struct plan *pl = &plans[c];
+    unsigned n = one_in(2) ? 18 : ENTRIES, length = n == 18 ? 17 : 68;
+    fill(pl, n, 0);
+    memset(pl->len, n == 18 ? 255 : 68, sizeof pl->len);
+    pl->len[n - 1] = (uint8_t)length;
+    pl->te = 0;
+    pl->framecnt = 1;
+    pl->intmsk = 0x30;
+    pl->again = 0;
+    pl->together = !one_in(4);
+    push_tables(c);
+    push_manner(c);
+    push_write(c, R_TRANSEL, n - 1);
+    push_write(c, R_TRANOFS, length - 1);
+    push_data(c, 1);
+    push_write(c, R_CONTROL, STA);
+    for (unsigned t = 0; t + 1 < n; t++)
+        push_event(c, "NACK");
+    push_read_at(c, 64 * c + n - 1);
+    push_event(c, "ACK");
+    for (unsigned i = 0; i < length; i++)
+        if (pl->sla[n - 1] & 1)
+            push_byte(c);
+        else
+            push_event(c, "ACK");
+    push_read_at(c, 64 * c + n - 1);
+    push_event(c, "STOP");
+    push_bytecount_reads(c, n + 1);
+    push_write(c, R_TRANOFS, length - 1);
+    push_read(c, R_DATA);
+    push_read(c, R_DATA);
+}
+
+/* Many frames that end at once: the largest FRAMECNTs */
+static void plan_frames(unsigned c)
+{
+    struct plan *pl = &plans[c];
+    fill(pl, 1, 0);
+    pl->sla[0] |= 1;
+    pl->te = 0;
+    pl->framecnt = (uint8_t)(one_in(2) ? 255 : between(100, 255));
+    pl->again = 0;
+    pl->together = !one_in(4);
+    push_tables(c);
+    push_manner(c);
+    push_write(c, R_CONTROL, STA);
+    for (unsigned i = 1; i < pl->framecnt; i++)
+        push_event(c, "TICK");
+    push_read(c, R_CHSTATUS);
+    push_read(c, R_CONTROL);
+}
+
+/* Count 0, and what a start does with it */
+static void plan_count_zero(unsigned c)
+{
+    fill(&plans[c], 0, 0);
+    plan_frame(c);
+}
+
+/* The buffer's end: 4,335 + 16, 4,351, 4,352 */
+static void plan_data_edge(unsigned c)
+{
+    struct plan *pl = &plans[c];
+    fill(pl, 17, 0);
+    memset(pl->len, 255, sizeof pl->len);
+    push_tables(c);
+    push_write(c, R_TRANSEL, 17);
+    if (one_in(2))
+        push_data(c, between(15, 19));
+    push_write(c, R_TRANOFS, between(14, 18));
+    push_data(c, between(0, 3));
+    if (one_in(2))
+        push_read(c, R_DATA);
+    push_write(c, R_CONTROL, AIPTRRST);
+    push_read(c, R_DATA);
+    push_read(c, R_DATA);
+    push_write(c, R_TRANSEL, between(16, 19));
+    push_write(c, R_TRANOFS, below(256));
+    push_read(c, R_TRANSEL);
+    push_read(c, R_TRANOFS);
+    push_write(c, R_TRANSEL, between(62, 65));
+    push_read(c, R_DATA);
+    push_read_at(c, R_CTRLSTATUS);
+}
+
+/* TRANSEL first, lengths later: AIPTRRST and TRANOFS past the end */
+static void plan_pointer_past(unsigned c)
+{
+    struct plan *pl = &plans[c];
+    fill(pl, one_in(2) ? ENTRIES : 18, 0);
+    push_tables(c);
+    push_write(c, R_TRANSEL, pl->n == ENTRIES ? 63 : 17);
+    push_write(c, R_TRANOFS, one_in(2) ? 0 : between(15, 18));
+    if (one_in(2))
+        push_data(c, 2);
+    for (unsigned t = 0; t < pl->n; t++)
+        pl->len[t] = pl->n == ENTRIES ? (uint8_t)between(66, 72) : 255;
+    push_write(c, R_CONTROL, AIPTRRST);
+    push_write(c, R_TRANCONFIG, pl->n);
+    for (unsigned t = 0; t < pl->n; t++)
+        push_write(c, R_TRANCONFIG, pl->len[t]);
+    push_read(c, R_DATA);
+    push_manner(c);
+    if (one_in(2)) {    /* a short frame runs meanwhile */
+        push_write(c, R_CONTROL, AIPTRRST);
+        push_write(c, R_TRANCONFIG, between(1, 3));
+        push_start(c);
+        pl->together = !one_in(4);
+    }
+    push_write(c, R_CONTROL, AIPTRRST | below(256));
+    push_read(c, R_CONTROL);
+    push_read(c, R_DATA);
+    push_write(c, R_TRANOFS, below(20));
+    push_read(c, R_TRANCONFIG);
+    push_read(c, R_SLATABLE);
+    push_read_at(c, R_CTRLSTATUS);
+}
+
+/* Entries 63, 64, 65 of the tables; counts 64, 65 and more */
+static void plan_table_edge(unsigned c)
+{
+    struct plan *pl = &plans[c];
+    fill(pl, 3, 3);
+    push_write(c, R_TRANSEL, 0);
+    push_write(c, R_CONTROL, AIPTRRST | BPTRRST);
+    switch (below(5)) {
+    case 0:
+        for (unsigned i = 0; i < 65 + below(3); i++)
+            push_write(c, R_SLATABLE, below(256));
+        push_read(c, R_SLATABLE);
+        break;
+    case 1:
+        push_write(c, R_TRANCONFIG, between(0, 64));
+        for (unsigned i = 0; i < 64 + below(3); i++)
+            push_write(c, R_TRANCONFIG, below(100));
+        push_read(c, R_TRANCONFIG);
+        break;
+    case 2:
+        for (unsigned i = 0; i < 64 + below(3); i++)
+            push_read(c, R_BYTECOUNT);
+        push_write(c, R_BYTECOUNT, 1);
+        push_read(c, R_BYTECOUNT);
+        break;
+    case 3:
+        for (unsigned i = 0; i < 64 + below(4); i++)
+            push_read(c, one_in(50) ? R_SLATABLE : R_TRANCONFIG);
+        push_write(c, R_TRANCONFIG, 65);
+        break;
+    default:
+        break;
+    }
+    push_write(c, R_CONTROL, AIPTRRST);
+    push_write(c, R_TRANCONFIG, 65);
+    push_write(c, R_TRANCONFIG, between(65, 255));
+    push_write(c, R_TRANCONFIG, 64);
+    push_write(c, R_TRANCONFIG, 65);
+    push_write(c, R_CONTROL, AIPTRRST);
+    push_read(c, R_TRANCONFIG);
+    push_read(c, R_TRANCONFIG);
+}
+
+/* The keys, whole and interrupted; the hardware reset */
+static void push_between_keys(unsigned c)
+{
+    switch (below(12)) {
+    case 0: push_read(c, below(16)); break;
+    case 1: push_write(c, below(15), any_byte()); break;
+    case 2: push_write_at(c, 64 * c + below(64), 0x5A); break;
+    case 3: push_write_at(c, 64 * ((c + 1) % 3) + below(64), 0xA5); break;
+    case 4: push_write_at(c, 0xC0 + 16 * ((c + 1) % 3) + R_INTMSK, 0); break;
+    case 5: push_write_at(c, 0xF8 + below(8), 0xA5); break;
+    case 6: push_write_at(c, 0xF0 + below(7), 0); break;
+    case 7: push_event(c, "ILL"); break;
+    case 8: push(&plans[c], one_in(2) ? "T R" : "T F"); break;
+    case 9: push(&plans[c], "W f7 00"); break;
+    case 10: push_read_at(c, 0xF0 + below(16)); break;
+    default: push(&plans[c], one_in(2) ? "E 3 ACK" : "E F SCL"); break;
+    }
+}
+
+static void push_keys(unsigned c, unsigned address)
+{
+    if (one_in(6)) {
+        push_write_at(c, address, 0x5A);
+        return;
+    }
+    push_write_at(c, address, 0xA5);
+    if (one_in(4))
+        push_write_at(c, address, 0xA5);
+    if (one_in(8))
+        push_write_at(c, address, any_byte());
+    if (one_in(2))
+        push_between_keys(c);
+    if (one_in(8))
+        push_between_keys(c);
+    push_write_at(c, address, 0x5A);
+    if (one_in(4))
+        push_write_at(c, address, 0x5A);
+}
+
+static void push_channel_key(unsigned c)
+{
+    push_keys(c, 0xC0 + 16 * c + R_PRESET);
+}
+
+/* A 5Ah after the reset does nothing: ILL's flag shows it, an event being no
+ * write. */
+static void push_second_5a(unsigned c)
+{
+    push_event(c, "ILL");
+    if (one_in(2))
+        push_write_at(c, R_CTRLPRESET, 0x5A);
+    push_write(c, R_PRESET, 0x5A);
+    push_read(c, R_CHSTATUS);
+}
+
+static void plan_reset(unsigned c)
+{
+    fill(&plans[c], 1, 3);
+    plans[c].together = !one_in(4);
+    if (one_in(4))
+        push_write(c, R_PRESET, 0xA5);
+    switch (below(8)) {
+    case 0: case 3:
+        push_keys(c, R_CTRLPRESET);
+        break;
+    case 1:
+        if (one_in(2))
+            push_write_at(c, R_CTRLPRESET, 0xA5);
+        push(&plans[c], "X");
+        break;
+    case 2:     /* both keys at once */
+        push_write(c, R_PRESET, 0xA5);
+        push_write_at(c, R_CTRLPRESET, 0xA5);
+        if (one_in(2))
+            push_write_at(c, R_CTRLPRESET, 0x5A);
+        push_write(c, R_PRESET, 0x5A);
+        push_write_at(c, R_CTRLPRESET, 0x5A);
+        break;
+    default:
+        if (one_in(2)) {
+            plan_small(c);
+            plans[c].budget = between(1, 10);
+        }
+        push_channel_key(c);
+        break;
+    }
+    if (one_in(2))
+        push_second_5a(c);
+    push_read(c, R_CONTROL);
+    push_read(c, R_TRANCONFIG);
+    push_read(c, R_FRAMECNT);
+    push_read(c, R_DATA);
+    push_read_at(c, R_CTRLSTATUS);
+}
+
+/* Every register once, and a write to each that only reads */
+static void plan_sweep(unsigned c)
+{
+    fill(&plans[c], 1, 2);
+    for (unsigned reg = 0; reg < 16; reg++)
+        push_read(c, reg);
+    for (unsigned i = 0; i < 16; i++)
+        push_read_at(c, 0xF0 + i);
+    for (unsigned i = 0; i < 6; i++)
+        push_read_at(c, 64 * c + below(64));
+    for (unsigned i = 0; i < 16; i++)
+        if (i != 7)
+            push_write_at(c, 0xF0 + i, i == 1 ? 0 : below(256));
+    push_write_at(c, 64 * c + (one_in(2) ? 0 : below(64)), below(256));
+    push_write(c, R_CHSTATUS, below(256));
+    push_write(c, R_BYTECOUNT, below(256));
+    for (unsigned reg = R_REFRATE; reg <= R_TIMEOUT; reg++)
+        push_write(c, reg, below(256));
+    for (unsigned reg = R_REFRATE; reg <= R_TIMEOUT; reg++)
+        push_read(c, reg);
+}
+
+static void new_plan(unsigned c)
+{
+    unsigned k = below(100);
+    if (one_in(25)) {
+        chorus = 6;
+        chorus_tp = (uint8_t)below(2);
+    }
+    choose_manner(&plans[c]);
+    plans[c].full = 0;
+    plans[c].grow = 0;
+    plans[c].together = 0;
+    plans[c].again = between(0, 4);
+    if (chorus > 0)
+        k = below(67);
+    if (k < 45)
+        plan_small(c);
+    else if (k < 62)
+        plan_skips(c);
+    else if (k < 67)
+        plan_many(c);
+    else if (k < 70)
+        plan_exact(c);
+    else if (k < 72)
+        plan_grow(c);
+    else if (k < 73)
+        plan_last(c);
+    else if (k < 74)
+        one_in(3) ? plan_frames(c) : plan_count_zero(c);
+    else if (k < 79)
+        plan_data_edge(c);
+    else if (k < 82)
+        plan_pointer_past(c);
+    else if (k < 86)
+        plan_table_edge(c);
+    else if (k < 95)
+        plan_reset(c);
+    else
+        plan_sweep(c);
+    plans[c].stage = FEED;
+}
+
+/* ---- Feeding a sequence ------------------------------------------------ */
+
+static void push_stop(unsigned c)
+{
+    static const uint8_t stops[] = { STO, STO, STOSEQ, STOSEQ, STO | STOSEQ };
+    unsigned v = stops[below(sizeof stops)];
+    if (one_in(6))
+        v |= STA;
+    if (one_in(10))
+        v |= below(256);
+    push_write(c, R_CONTROL, v);
+    if (one_in(3))
+        push_read(c, R_CONTROL);
+}
+
+static void push_trigger(unsigned c, int matching)
+{
+    push(&plans[c], (plans[c].tp != 0) == matching ? "T F" : "T R");
+}
+
+static void push_side(unsigned c)
+{
+    static const char *const names[] = {
+        "ACK", "NACK", "BYTE 55", "TICK", "STOP", "SDA", "SCL", "ILL"
+    };
+    switch (below(18)) {
+    case 0: case 1:
+        push_stop(c);
+        break;
+    case 2:     /* no. 3 */
+        push_write(c, between(R_SLATABLE, R_DATA), below(256));
+        break;
+    case 3:     /* no. 3 */
+        push_write(c, between(R_FRAMECNT, R_TIMEOUT), below(256));
+        break;
+    case 4:     /* no. 2 */
+        push_write(c, one_in(2) ? R_CHSTATUS : R_BYTECOUNT, below(256));
+        break;
+    case 5:
+        push_write(c, R_INTMSK, one_in(2) ? below(256) : 0x31);
+        push_read(c, R_INTMSK);
+        break;
+    case 6:
+        push_write(c, R_TRANSEL, one_in(4) ? below(256) : below(8));
+        push_read(c, R_DATA);
+        break;
+    case 7:
+        push_write(c, R_TRANOFS, one_in(4) ? below(256) : below(8));
+        push_read(c, R_DATA);
+        break;
+    case 8:     /* TP, TE and the pointer resets of an active channel */
+        push_write(c, R_CONTROL, below(32));
+        push_read(c, R_CONTROL);
+        break;
+    case 9:
+        push_event(c, names[below(5)]);
+        break;
+    case 10:
+        push_event(c, names[below(8)]);
+        break;
+    case 11:
+        push_read(c, below(16));
+        break;
+    case 12:
+        push_status_reads(c);
+        break;
+    case 13:
+        push_bytecount_reads(c, plans[c].n);
+        break;
+    case 14:
+        push_read_at(c, one_in(2) ? R_CTRLSTATUS : 0xF0 + below(16));
+        break;
+    case 15:
+        push_read(c, R_CHSTATUS);
+        break;
+    case 16:
+        if (one_in(6))
+            push_channel_key(c);
+        else
+            push_trigger(c, (int)below(2));
+        break;
+    default:
+        push_write(c, R_CONTROL, STA | below(256));
+        break;
+    }
+}
+
+static void push_late(unsigned c)
+{
+    if (part.ch[c].te)
+        push_trigger(c, part.ch[c].tp == plans[c].tp);
+    else
+        push_event(c, "TICK");
+}
+
+/* In Waiting, entry 0 can be written anew. */
+static void push_new_count(unsigned c)
+{
+    push_write(c, R_CONTROL, AIPTRRST);
+    push_write(c, R_TRANCONFIG, one_in(3) ? any_byte()
+                                          : below(plans[c].n + 2));
+    if (one_in(3))      /* no. 3: entry 1 */
+        push_write(c, R_TRANCONFIG, 1);
+}
+
+static void feed_waiting(unsigned c)
+{
+    struct plan *pl = &plans[c];
+    if (pl->frames == 0 || pl->budget == 0) {
+        if (one_in(12))
+            push_event(c, one_in(2) ? "SCL" : "ILL");
+        else
+            push_stop(c);
+        return;
+    }
+    if (pl->grow) {
+        pl->grow = 0;
+        push_write(c, R_CONTROL, AIPTRRST);
+        push_write(c, R_TRANCONFIG, pl->n);
+        return;
+    }
+    if (one_in(12)) {
+        push_new_count(c);
+        return;
+    }
+    if (one_in(60)) {   /* the pointer at 65: no. 3 */
+        pl->together = 1;
+        push_write(c, R_CONTROL, AIPTRRST);
+        for (unsigned i = 0; i < ENTRIES + 1; i++)
+            push_read(c, R_TRANCONFIG);
+        push_write(c, R_TRANCONFIG, below(70));
+        return;
+    }
+    if (one_in(12)) {   /* not awaited, or the other edge */
+        push_event(c, one_in(2) ? "STOP" : "SDA");
+        push_trigger(c, 0);
+        return;
+    }
+    /* several channels shall wait for one edge */
+    if (part.ch[c].te && !pl->held && !one_in(4)) {
+        pl->held = 1;
+        pl->hold = below(200);
+        return;
+    }
+    pl->held = 0;
+    pl->frames--;
+    if (part.ch[c].te)
+        push(pl, part.ch[c].tp ? "T F" : "T R");
+    else
+        push_event(c, "TICK");
+}
+
+static void feed(unsigned c)
+{
+    struct plan *pl = &plans[c];
+    const struct channel *ch = &part.ch[c];
+    if (pl->budget > 0) {
+        pl->budget--;
+        if (per_mille(pl->side)) {
+            push_side(c);
+            return;
+        }
+        if (per_mille(pl->late) && ch->phase != WAITING) {
+            push_late(c);
+            return;
+        }
+    } else if (ch->phase != WAITING && !ch->sto) {
+        push_write(c, R_CONTROL, STO);
+        return;
+    }
+    switch (ch->phase) {
+    case ADDRESS:
+        push_event(c, per_mille(pl->nack) ? "NACK"
+                      : one_in(200) ? "SDA" : "ACK");
+        break;
+    case SENDING:
+        push_event(c, per_mille(pl->nack) ? "NACK"
+                      : one_in(400) ? "SCL" : "ACK");
+        break;
+    case RECEIVING:
+        if (one_in(400))
+            push_event(c, "ILL");
+        else
+            push_byte(c);
+        break;
+    case STOPPING:
+        push_event(c, "STOP");
+        break;
+    default:
+        feed_waiting(c);
+        break;
+    }
+}
+
+/* The next line of a channel's plan */
+static void advance(unsigned c)
+{
+    struct plan *pl = &plans[c];
+    while (pl->first == pl->last) {
+        if (pl->hold > 0)
+            return;
+        pl->first = pl->last = 0;
+        pl->together = 0;
+        if (pl->stage == NEW) {
+            new_plan(c);
+        } else if (part.ch[c].phase != IDLE) {
+            feed(c);
+        } else {
+            push_read_back(c);
+            if (pl->again == 0 || pl->full) {
+                pl->stage = NEW;
+                continue;
+            }
+            pl->again--;
+            choose_manner(pl);
+            push_manner(c);
+            push_start(c);
+        }
+    }
+    emit_text(pl->queue[pl->first++]);
+}
+
+/* ---- Noise ------------------------------------------------------------- */
+
+static const char *const bad_lines[] = {
+    "", " ", "\r", "\t", "w C0 40", "W c0 40", "W C0 4a", "r C0", "R c1",
+    "e 0 ACK", "E 0 ack", "E a ACK", "t R", "T r", "x", "W  C0 40",
+    "W C0  40", " W C0 40", "W C0 40 ", "W C0 40\r", "R C0\r", "X\r",
+    "T R\r", "E 0 ACK\r", "E 0 BYTE 11\r", "W\tC0 40", "W C0\t40", "W C0",
+    "W C0 ", "W C0 4", "W C0 400", "W C04 0", "W C040", "WC040", "W", "W ",
+    "W C0 G0", "W 0xC0 40", "W -1 00", "R", "R ", "R C", "R C00", "R C0 00",
+    "R  C0", "R C0 ", " R C0", "R G0", "R /0", "R :0", "R @0", "E", "E 0",
+    "E 0 ", "E ACK", "E G ACK", "E 00 ACK", "E 01 ACK", "E  0 ACK",
+    "E 0  ACK", "E 0 ACK ", "E 0 ACK 00", "E 0 AC", "E 0 ACKK", "E 0 NAK",
+    "E 0 BYTE", "E 0 BYTE ", "E 0 BYTE 1", "E 0 BYTE 123", "E 0 BYTE  1",
+    "E 0 BYTE 1g", "E 0 BYTE aa", "E 0 BYTE11", "E 0 BYTES 11",
+    "E 0 STOPP", "E 0 TICK 00", "E 0 SD", "E 0 SDA 0", "E 0 SCLL",
+    "E 0 ILLEGAL", "E 0 START", "E 0 byte 11", "E 3 NAME", "E F BYTE",
+    "E 9 ack", "T", "T ", "T  R", "T R ", "T X", "T RF", "TR", "T F F",
+    "X ", " X", "XX", "X 0", "#", "step", "-", "W C0 40 E 0 ACK"
+};
+
+static void noise_bad(void)
+{
+    static uint8_t longest[20000];
+    uint8_t bytes[64];
+    size_t n = 0;
+    switch (below(8)) {
+    case 0:     /* random bytes */
+        n = between(1, 40);
+        for (size_t i = 0; i < n; i++)
+            do
+                bytes[i] = (uint8_t)below(256);
+            while (bytes[i] == '\n');
+        emit(bytes, n);
+        break;
+    case 1:     /* long lines that begin like a step */
+        n = one_in(10) ? between(1000, sizeof longest) : between(12, 60);
+        memset(longest, one_in(2) ? ' ' : '0', n);
+        memcpy(longest, "E 0 BYTE 11", 11);
+        emit(longest, n);
+        break;
+    case 2: {   /* one byte of a readable line altered, put in or left out */
+        char line[LINE + 2];
+        size_t at;
+        snprintf(line, sizeof line, "%s",
+                 one_in(2) ? "W D0 40" : one_in(2) ? "E 1 BYTE A9" : "R E8");
+        n = strlen(line);
+        at = below((unsigned)n);
+        switch (below(3)) {
+        case 0:
+            do
+                line[at] = (char)below(256);
+            while (line[at] == '\n');
+            break;
+        case 1:
+            memmove(line + at + 1, line + at, n - at);
+            n++;
+            break;
+        default:
+            memmove(line + at, line + at + 1, n - at - 1);
+            n--;
+            break;
+        }
+        emit(line, n);
+        break;
+    }
+    default:
+        emit_text(bad_lines[below(sizeof bad_lines / sizeof *bad_lines)]);
+        break;
+    }
+}
+
+static void noise(void)
+{
+    static const char *const names[] = {
+        "ACK", "NACK", "TICK", "STOP", "SDA", "SCL", "ILL"
+    };
+    char line[LINE];
+    unsigned k = below(100);
+    if (k < 25) {
+        noise_bad();
+        return;
+    }
+    if (k < 45)
+        snprintf(line, sizeof line, "R %02X", below(256));
+    else if (k < 55)
+        snprintf(line, sizeof line, "R %02X", between(0xC0, 0xFF));
+    else if (k < 60)
+        snprintf(line, sizeof line, "W %02X %02X",
+                 one_in(4) ? 64 * below(3) : below(0xC0), below(256));
+    else if (k < 70)
+        snprintf(line, sizeof line, "W %02X %02X",
+                 between(0xC0, 0xFF), any_byte());
+    else if (k < 73)
+        snprintf(line, sizeof line, "R %02X", between(0xF8, 0xFE));
+    else if (k < 76)
+        snprintf(line, sizeof line, "W %02X %02X", between(0xF2, 0xFF),
+                 below(256));
+    else if (k < 82)
+        snprintf(line, sizeof line, "E %X %s", between(3, 15),
+                 names[below(7)]);
+    else if (k < 84)
+        snprintf(line, sizeof line, "E %X BYTE %02X", between(3, 15),
+                 below(256));
+    else if (k < 92)
+        snprintf(line, sizeof line, "E %X %s", below(3),
+                 names[below(one_in(6) ? 7 : 4)]);
+    else if (k < 95)
+        snprintf(line, sizeof line, "E %X BYTE %02X", below(3), below(256));
+    else if (k < 99 || !one_in(20))
+        snprintf(line, sizeof line, "T %c", one_in(2) ? 'R' : 'F');
+    else
+        snprintf(line, sizeof line, "X");
+    emit_text(line);
+}
+
+/* ---- The program ------------------------------------------------------- */
+
+int main(int argc, char **argv)
+{
+    static const unsigned noises[] = { 1, 5, 20, 100, 350 };
+    static const unsigned bursts[] = { 1, 4, 30 };
+    unsigned rate, burst, c = 0;
+    uint64_t seed;
+    if (argc != 3) {
+        fprintf(stderr, "usage: generate SEED STEPS\n");
+        return 1;
+    }
+    seed = strtoull(argv[1], NULL, 10);
+    wanted = strtoull(argv[2], NULL, 10);
+    rng = seed * 0xD1342543DE82EF95u + 1;
+    last_without_lf = (int)(seed % 2);
+    rate = noises[seed % 5];
+    burst = bursts[seed / 5 % 3];
+    reset_part(&part);
+    while (made < wanted) {
+        if (plans[c].together && plans[c].first < plans[c].last) {
+            advance(c);
+            continue;
+        }
+        if (per_mille(rate)) {
+            noise();
+            continue;
+        }
+        if (one_in(burst) || plans[c].hold > 0)
+            c = below(CHANNELS);
+        if (plans[c].hold > 0) {
+            plans[c].hold--;
+            continue;
+        }
+        advance(c);
+    }
+    return fflush(stdout) == 0 ? 0 : 1;
+}
