@@ -25,9 +25,11 @@ ctrlAt a =
     if eqb a 0xF7 then Ctrlpreset else
     if ltb a 0xFF then Nothing else Ctrlrdy
 
+-- a write: of the channel whose address it is, or of the whole part
 unfoldable pub writeTarget : ℕ → ℕ → Target
 writeTarget a v = if ltb (channelAt a) 3 then One (channelAt a) (WriteOp a v) else CtrlWrite (ctrlAt a) v
 
+-- a read, in the same way
 unfoldable pub readTarget : ℕ → Target
 readTarget a = if ltb (channelAt a) 3 then One (channelAt a) (ReadOp a) else CtrlRead (ctrlAt a)
 

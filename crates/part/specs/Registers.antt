@@ -29,6 +29,7 @@ pendingOf f mask =
     if unmaskedOf (f .cle) mask 0x04 then true else
     if unmaskedOf (f .sse) mask 0x02 then true else unmaskedOf (f .fe) mask 0x01
 
+-- channel c of the part is pending, or active
 abbrev pub pendingAt : Part → ℕ → Bool
 pendingAt p c = pendingOf (chan p c .flags) (chan p c .regs .intmsk)
 

@@ -45,6 +45,7 @@ oneAfter p c op r = record {
   key = keyKept op (p .key);
 }
 
+-- with its number, its value and its action
 abbrev pub oneTold : Part → ℕ → Op → Stepped → PartStepped
 oneTold p c op r = told (oneAfter p c op r) (r .answer .number) (r .answer .value) (onlyAt c (r .answer .action))
 
@@ -87,6 +88,7 @@ partServed p m (AllTrigger edge) = triggerStep p edge
 partServed p m AllReset = refusedPart freshPart 0
 partServed p m Beyond = refusedPart p 1
 
+-- and the bytes
 unfoldable pub partStored : Part → List ℕ → Target → List ℕ
 partStored p m (One c op) = oneBytes p m c op
 partStored p m (CtrlWrite reg v) = ctrlStore p m reg v
@@ -106,9 +108,11 @@ channelsIn (c ∷ l) = if inRange c then channelsIn l else false
 abbrev pub maskIn : ℕ → Bool
 maskIn mask = eqb (mask / 8 % 16) 0
 
+-- the part is in range
 unfoldable pub partIn : Part → Bool
 partIn p = if channelsIn (p .channels) then maskIn (p .mask) else false
 
+-- a memory of 13,056 bytes and a part in range are accepted
 unfoldable pub accepts : Part → ℕ → Bool
 accepts p len = if eqb len 13056 then partIn p else false
 

@@ -1,6 +1,5 @@
 // Document 01, 'The part as the processor sees it': the address map, and whom a step concerns.
 ghost use mathlib.Core.Path.{_≡_};
-ghost use Prim.Native.Nat.{_≤_};
 ghost use Rattle.part.specs.Map.{channelAt, ctrlAt, writeTarget, readTarget, wireTarget, targetOf, InPart};
 use channel::Op;
 use sequence::Edge;
@@ -94,7 +93,7 @@ fn wire_target(c: u8, e: Event) -> Target
     }
 }
 
-pub fn target_of(s: Step) -> Target
+pub(crate) fn target_of(s: Step) -> Target
     ensures { λ r. ⌜ (r ≡ targetOf s) × InPart r ⌝ }
 {
     match s {

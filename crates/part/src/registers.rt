@@ -68,7 +68,7 @@ fn ctrl_kept(v: u8) -> u8
 }
 
 // The reset of the whole part, with every byte.
-pub fn reset(mem: &mut [u8]) -> PartStepped
+pub(crate) fn reset(mem: &mut [u8]) -> PartStepped
     requires { ⌜ length (now mem) ≡ 13056 ⌝ }
     ensures { λ r. ⌜ (r ≡ refusedPart freshPart 0) × (now (mem .exit) ≡ wiped) ⌝ }
 {

@@ -67,7 +67,7 @@ impl Part {
     }
 
     // The part with an answer of these actions.
-    pub(crate) fn tell(self, number: u8, value: u8, actions: [Act; 3]) -> PartStepped
+    fn tell(self, number: u8, value: u8, actions: [Act; 3]) -> PartStepped
         ensures { λ r. ⌜ r ≡ told self number value actions ⌝ }
     {
         PartStepped {

@@ -2,7 +2,6 @@
 ghost use mathlib.Core.Bool.{true};
 ghost use mathlib.Core.Path.{_≡_};
 ghost use Prim.Native.Nat.{_<_};
-ghost use lib.ListN.{length};
 ghost use Rattle.part.specs.Map.{InPart};
 ghost use Rattle.part.specs.Step.{beAfter, keyKept, oneStep, oneBytes, triggerStep, partServed, partStored, maskIn, channelsIn, partIn, accepts, partStep, partBytes, Whole};
 use crate::map::Step;

@@ -14,7 +14,7 @@ use Rattle.part.specs.declared.map.Step.{Step}
 use Rattle.part.specs.declared.state.Part.{Part}
 use Rattle.part.specs.State.{blank, refusedPart}
 use Rattle.part.specs.Map.{targetOf}
-use Rattle.part.specs.Step.{channelsIn, maskIn, partIn, accepts, partServed, partStored, partStep, partBytes, Whole}
+use Rattle.part.specs.Step.{channelsIn, partIn, accepts, partServed, partStored, partStep, partBytes, Whole}
 
 pub each-in : (l : List Channel) (c : ℕ) → channelsIn l ≡ true → c < length l → inRange (getD l c blank) ≡ true
 unfolding channelsIn
@@ -25,10 +25,6 @@ each-in (x ∷ l) (suc c) e h = each-in l c (both _ _ e .1) (le-of-suc-le-suc h)
 pub channels-of : (p : Part) → partIn p ≡ true → channelsIn (p .channels) ≡ true
 unfolding partIn
 channels-of p e = both _ _ e .0
-
-pub mask-of : (p : Part) → partIn p ≡ true → maskIn (p .mask) ≡ true
-unfolding partIn
-mask-of p e = both _ _ e .1
 
 -- what is not refused by no. 9
 pub accepts-whole : (p : Part) (m : List ℕ) → accepts p (length m) ≡ true → Whole p m
