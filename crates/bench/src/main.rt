@@ -12,7 +12,7 @@ use part::PartAnswer;
 use part::PartStepped;
 use script::Line;
 
-// The line that is being read: its first bytes, as many as a line needs to be longer than any that can be read.
+// The line that is being read: its first twelve bytes, since no line of more than eleven can be read.
 struct Start {
     bytes: [u8; 12],
     len: usize,
@@ -248,6 +248,7 @@ fn turn(b: Bench, block: &mut [u8], mem: &mut [u8], out: &mut [u8]) -> Bench
     answer_block(b, &block[..n], mem, out)
 }
 
+// The program begins: the part after a reset, and the header is written.
 fn begin(out: &mut [u8]) -> Bench
     ensures { λ r. ⌜ partIn (r .part) ≡ true ⌝ }
 {

@@ -13,7 +13,7 @@ use Rattle.sequence.specs.declared.wires.Ask.the-variants.{Nothing, Overrun, Be
 use Rattle.sequence.specs.declared.wires.Ending.the-variants.{Sd}
 use Rattle.rules.specs.Registers.{activeOf, commandOf, controlValue, chstatusValue, maskKept}
 use Rattle.rules.specs.Tables.{startOf}
-use Rattle.rules.specs.Access.{busyRefusal, pastRefusal, placeRefusal, slaRefusal, confRefusal, dataRefusal, selRefusal, keptIf, rewound, pointedAt, overrunOf, keyAfter, resetsOf}
+use Rattle.rules.specs.Access.{busyRefusal, pastRefusal, placeRefusal, slaRefusal, confRefusal, dataRefusal, selRefusal, keptIf, rewound, pointedAt, overrunOf, presetOf, keyAfter, resetsOf}
 use Rattle.sequence.specs.Wires.{askOf}
 use Rattle.sequence.specs.Walk.{waiting, stoRecorded, seqRecorded, noFlags}
 use Rattle.channel.specs.declared.state.Channel.{Channel}
@@ -156,7 +156,7 @@ writeStore c m reg v = if eqb (refusalOf c reg v) 0 then storedBy c m reg v else
 -- ---- the key: A5h and then 5Ah at PRESET reset the channel and its 4,352 bytes; every other write, refused or not, goes on without the key
 
 unfoldable pub putOf : Channel → Register → ℕ → Stepped
-putOf c reg v = if resetsOf reg v (c .key) then plain fresh else writeOf (withKey c (keyAfter reg v)) reg v
+putOf c reg v = if resetsOf (presetOf reg) v (c .key) then plain fresh else writeOf (withKey c (keyAfter (presetOf reg) v)) reg v
 
 unfoldable pub putStore : Channel → List ℕ → Register → ℕ → List ℕ
-putStore c m reg v = if resetsOf reg v (c .key) then zeros else writeStore (withKey c (keyAfter reg v)) m reg v
+putStore c m reg v = if resetsOf (presetOf reg) v (c .key) then zeros else writeStore (withKey c (keyAfter (presetOf reg) v)) m reg v

@@ -5,7 +5,7 @@ ghost use lib.ListN.{length, getD, set};
 ghost use Rattle.rules.specs.Registers.{Known, maskKept, chstatusValue};
 ghost use Rattle.rules.specs.Tables.{startOf};
 ghost use Rattle.rules.specs.Access.{placeRefusal};
-ghost use Rattle.channel.specs.State.{zeros, countOf, replied, withSla, withConf, withSettings, withFlags, slaAt, confAt, dataAt, countAt, maskSet, placeSet};
+ghost use Rattle.channel.specs.State.{countOf, replied, withSla, withConf, withSettings, withFlags, slaAt, confAt, dataAt, countAt, maskSet, placeSet};
 ghost use Rattle.sequence.specs.Walk.{noFlags};
 ghost use Rattle.channel.specs.Access.{readRefusal, controlOf, readBy, readOf, dataPlace, moded, pointed, asked, controlled, refusalOf, writtenBy, storedBy, writeOf, writeStore, putOf, putStore};
 ghost use Rattle.channel.specs.Step.{Accepted};
@@ -16,18 +16,6 @@ use rules::Ptrs;
 use rules::Register;
 use sequence::Ask;
 use sequence::Ending;
-
-// Zeroes the bytes.
-fn wipe(mem: &mut [u8])
-    requires { ⌜ length (now mem) ≡ 4352 ⌝ }
-    ensures { λ _. ⌜ now (mem .exit) ≡ zeros ⌝ }
-{
-    let mut i = 0;
-    while i < mem.len() {
-        mem[i] = 0;
-        i += 1;
-    }
-}
 
 impl Channel {
     // ---- reads
@@ -386,11 +374,12 @@ impl Channel {
         requires { ⌜ Accepted self (now mem) × Known reg ⌝ }
         ensures { λ r. ⌜ (r ≡ putOf self reg v) × (now (mem .exit) ≡ putStore self (now (mem .entry)) reg v) ⌝ }
     {
-        if rules::resets(reg, v, self.key) {
-            wipe(mem);
+        let preset = rules::is_preset(reg);
+        if rules::resets(preset, v, self.key) {
+            rules::wipe(mem);
             return Channel::new().refuse(0);
         }
-        let key = rules::key_after(reg, v);
+        let key = rules::key_after(preset, v);
         self.with_key(key).write(mem, reg, v)
     }
 }

@@ -1,6 +1,6 @@
--- DEMAND 3 of document 01: the three channels do not disturb each other. 'From any accepted state, any mix of three channels' step lists (each in
--- its own order, no whole-part step) gives each step the same answer and action, and ends in the same state, memory and interrupt level, as
--- list 0, then 1, then 2.'
+-- DEMAND 3, which document 01 names and does not word: the three channels do not disturb each other. From any accepted state, any mix of three
+-- channels' step lists (each in its own order, no whole-part step) gives each step the same answer and action, and ends in the same state, memory
+-- and interrupt level, as list 0, then 1, then 2.
 -- A reader has to believe this page, the page of mixes and runs (crate mixes, specs/Mix.antt), and the rules of a step that the contract of
 -- `Part::step` cites (crate part, specs/Step.antt: partStep, partBytes). Theorem.antt says `independent` of every state and mix; that file's
 -- last lines and all of Laws/ are proof.

@@ -6,6 +6,7 @@ use channel::Channel;
 use channel::Op;
 use channel::Stepped;
 
+// The two fields of what a step gives back, as calls: so the proof of `step_lent` names no field of the record.
 fn channel_of(s: Stepped) -> Channel
     ensures { λ r. ⌜ r ≡ s .channel ⌝ }
 {

@@ -2,9 +2,9 @@
 use Prim.Native.Nat.{ℕ, _+_, _*_, _/_, _%_}
 use mathlib.Core.Bool.{Bool, true, false, not}
 use mathlib.Core.List.{List}
-use lib.Dec.{eqb}
 use Rattle.laws.specs.Pick.{if_then_else_}
 use Rattle.rules.specs.declared.state.Flags.{Flags}
+use Rattle.rules.specs.Access.{keyAfter, resetsOf}
 use Rattle.rules.specs.Registers.{activeOf, bitOf, weigh}
 use Rattle.part.specs.declared.map.Ctrl.{Ctrl}
 use Rattle.part.specs.declared.map.Ctrl.the-variants.{Ctrlstatus, Ctrlintmsk, Reserved, DeviceId, Ctrlpreset, Nothing, Ctrlrdy}
@@ -83,17 +83,10 @@ ctrlpresetOf Ctrlpreset = true
 ctrlpresetOf Nothing = false
 ctrlpresetOf Ctrlrdy = false
 
--- writing A5h to CTRLPRESET is kept; any write elsewhere forgets it
-unfoldable pub ctrlKeyAfter : Ctrl → ℕ → Bool
-ctrlKeyAfter reg v = if ctrlpresetOf reg then eqb v 0xA5 else false
-
--- and then 5Ah resets the whole part
-unfoldable pub ctrlResets : Ctrl → ℕ → Bool → Bool
-ctrlResets reg v key = if ctrlpresetOf reg then (if key then eqb v 0x5A else false) else false
-
+-- writing A5h to CTRLPRESET and then 5Ah resets the whole part; any write elsewhere between forgets the A5h
 unfoldable pub ctrlPut : Part → Ctrl → ℕ → PartStepped
-ctrlPut p reg v = if ctrlResets reg v (p .key) then refusedPart freshPart 0 else ctrlWritten (withKey p (ctrlKeyAfter reg v)) reg v
+ctrlPut p reg v = if resetsOf (ctrlpresetOf reg) v (p .key) then refusedPart freshPart 0 else ctrlWritten (withKey p (keyAfter (ctrlpresetOf reg) v)) reg v
 
 -- the 13,056 bytes: zero after a reset
 unfoldable pub ctrlStore : Part → List ℕ → Ctrl → ℕ → List ℕ
-ctrlStore p m reg v = if ctrlResets reg v (p .key) then wiped else m
+ctrlStore p m reg v = if resetsOf (ctrlpresetOf reg) v (p .key) then wiped else m

@@ -102,7 +102,7 @@ unfoldable pub channelsIn : List Channel → Bool
 channelsIn [] = true
 channelsIn (c ∷ l) = if inRange c then channelsIn l else false
 
--- a bit of CTRLINTMSK that is kept 0 set
+-- no bit of CTRLINTMSK that is kept 0 is set
 abbrev pub maskIn : ℕ → Bool
 maskIn mask = eqb (mask / 8 % 16) 0
 

@@ -3,7 +3,7 @@ ghost use mathlib.Core.Path.{_≡_};
 ghost use Prim.Native.Nat.{_+_, _*_, _/_, _%_, _<_};
 ghost use lib.ListN.{length};
 ghost use Rattle.part.specs.State.{freshPart, wiped, refusedPart};
-ghost use Rattle.part.specs.Registers.{unmaskedOf, pendingOf, pendingAt, activeAt, interruptOf, ctrlstatusOf, ctrlKept, ctrlRead, ctrlWritten, ctrlpresetOf, ctrlKeyAfter, ctrlResets, ctrlPut, ctrlStore};
+ghost use Rattle.part.specs.Registers.{unmaskedOf, pendingOf, pendingAt, activeAt, interruptOf, ctrlstatusOf, ctrlKept, ctrlRead, ctrlWritten, ctrlpresetOf, ctrlPut, ctrlStore};
 use crate::map::Ctrl;
 use crate::state::Part;
 use crate::state::PartStepped;
@@ -61,38 +61,10 @@ fn is_ctrlpreset(reg: Ctrl) -> bool
     }
 }
 
-fn ctrl_key_after(reg: Ctrl, v: u8) -> bool
-    ensures { λ r. ⌜ r ≡ ctrlKeyAfter reg v ⌝ }
-{
-    if is_ctrlpreset(reg) { v == 0xA5 } else { false }
-}
-
-fn ctrl_resets(reg: Ctrl, v: u8, key: bool) -> bool
-    ensures { λ r. ⌜ r ≡ ctrlResets reg v key ⌝ }
-{
-    if is_ctrlpreset(reg) {
-        if key { v == 0x5A } else { false }
-    } else {
-        false
-    }
-}
-
 fn ctrl_kept(v: u8) -> u8
     ensures { λ r. ⌜ r ≡ ctrlKept v ⌝ }
 {
     v / 128 * 128 + v % 8
-}
-
-// Zeroes the bytes.
-fn wipe_all(mem: &mut [u8])
-    requires { ⌜ length (now mem) ≡ 13056 ⌝ }
-    ensures { λ _. ⌜ now (mem .exit) ≡ wiped ⌝ }
-{
-    let mut i = 0;
-    while i < mem.len() {
-        mem[i] = 0;
-        i += 1;
-    }
 }
 
 // The reset of the whole part, with every byte.
@@ -100,7 +72,7 @@ pub fn reset(mem: &mut [u8]) -> PartStepped
     requires { ⌜ length (now mem) ≡ 13056 ⌝ }
     ensures { λ r. ⌜ (r ≡ refusedPart freshPart 0) × (now (mem .exit) ≡ wiped) ⌝ }
 {
-    wipe_all(mem);
+    rules::wipe(mem);
     Part::new().refuse(0)
 }
 
@@ -207,9 +179,11 @@ impl Part {
         requires { ⌜ length (now mem) ≡ 13056 ⌝ }
         ensures { λ r. ⌜ (r ≡ ctrlPut self reg v) × (now (mem .exit) ≡ ctrlStore self (now (mem .entry)) reg v) ⌝ }
     {
-        if ctrl_resets(reg, v, self.key) {
+        let preset = is_ctrlpreset(reg);
+        if rules::resets(preset, v, self.key) {
             return reset(mem);
         }
-        self.with_key(ctrl_key_after(reg, v)).write_ctrl(reg, v)
+        let key = rules::key_after(preset, v);
+        self.with_key(key).write_ctrl(reg, v)
     }
 }

@@ -137,7 +137,7 @@ impl Part {
         true
     }
 
-    // Whether the part is in a state that a step can leave.
+    // Whether the part is in range: each channel, and CTRLINTMSK.
     pub fn in_range(self) -> bool
         ensures { λ r. ⌜ r ≡ partIn self ⌝ }
     {

@@ -4,6 +4,7 @@ use Prim.Native.Nat.{ℕ, _<_, _≤_, _*_}
 use mathlib.Core.Bool.{Bool}
 use mathlib.Core.List.{List}
 use mathlib.Core.Path.{_≡_}
+use lib.ListN.{length, replicate}
 use Rattle.rules.specs.declared.registers.Command.{Command}
 use Rattle.rules.specs.declared.registers.Place.{Place}
 use Rattle.rules.specs.declared.registers.Register.{Register}
@@ -11,7 +12,7 @@ use Rattle.rules.specs.declared.state.Flags.{Flags}
 use Rattle.rules.specs.declared.state.Phase.{Phase}
 use Rattle.rules.specs.declared.state.Ptrs.{Ptrs}
 use Rattle.rules.specs.declared.state.Walk.{Walk}
-use Rattle.rules.specs.Access.{busyRefusal, pastRefusal, placeRefusal, slaRefusal, confRefusal, dataRefusal, selRefusal, keptIf, rewound, pointedAt, overrunOf, keyAfter, resetsOf}
+use Rattle.rules.specs.Access.{busyRefusal, pastRefusal, placeRefusal, slaRefusal, confRefusal, dataRefusal, selRefusal, keptIf, rewound, pointedAt, overrunOf, presetOf, keyAfter, resetsOf}
 use Rattle.rules.specs.Range.{pointersIn, registersIn, walkIn, frameIn}
 use Rattle.rules.specs.Registers.{placeOf, KnownPlace, activeOf, bitOf, commandOf, weigh, controlValue, chstatusValue, maskKept}
 use Rattle.rules.specs.Tables.{startOf, fitting, readsOf, firstSent, marked}
@@ -51,11 +52,14 @@ point-at-once aiptrrst place at = no-second (λ r h. h)
 pub overrun-once : (aiptrrst : Bool) (place : ℕ) → Once Bool (λ r. r ≡ overrunOf aiptrrst place)
 overrun-once aiptrrst place = no-second (λ r h. h)
 
-pub key-after-once : (reg : Register) (v : ℕ) → Once Bool (λ r. r ≡ keyAfter reg v)
-key-after-once reg v = no-second (λ r h. h)
+pub is-preset-once : (reg : Register) → Once Bool (λ r. r ≡ presetOf reg)
+is-preset-once reg = no-second (λ r h. h)
 
-pub resets-once : (reg : Register) (v : ℕ) (key : Bool) → Once Bool (λ r. r ≡ resetsOf reg v key)
-resets-once reg v key = no-second (λ r h. h)
+pub key-after-once : (preset : Bool) (v : ℕ) → Once Bool (λ r. r ≡ keyAfter preset v)
+key-after-once preset v = no-second (λ r h. h)
+
+pub resets-once : (preset : Bool) (v : ℕ) (key : Bool) → Once Bool (λ r. r ≡ resetsOf preset v key)
+resets-once preset v key = no-second (λ r h. h)
 
 -- ---- range.rt
 pub pointers-in-once : (p : Ptrs) → Once Bool (λ r. r ≡ pointersIn p)
@@ -113,3 +117,6 @@ first-sent-once sla lens from count = no-second (λ r h. h .0)
 
 pub mark-once : (status : List ℕ) (from to : ℕ) → Once (List ℕ) (λ status′. status′ ≡ marked status from to)
 mark-once status from to = no-second (λ r h. h)
+
+pub wipe-once : (mem : List ℕ) → Once (List ℕ) (λ mem′. mem′ ≡ replicate (length mem) 0)
+wipe-once mem = no-second (λ r h. h)

@@ -91,10 +91,10 @@ presetOf Bytecount = false
 presetOf (Setting n) = false
 presetOf Preset = true
 
--- writing A5h to PRESET is kept; any other write at that channel's addresses forgets it
-unfoldable pub keyAfter : Register → ℕ → Bool
-keyAfter reg v = if presetOf reg then eqb v 0xA5 else false
+-- writing A5h to PRESET is kept; any other write at that channel's addresses forgets it. CTRLPRESET does so for the whole part
+unfoldable pub keyAfter : Bool → ℕ → Bool
+keyAfter preset v = if preset then eqb v 0xA5 else false
 
--- and then 5Ah resets the channel
-unfoldable pub resetsOf : Register → ℕ → Bool → Bool
-resetsOf reg v key = if presetOf reg then (if key then eqb v 0x5A else false) else false
+-- and then 5Ah resets
+unfoldable pub resetsOf : Bool → ℕ → Bool → Bool
+resetsOf preset v key = if preset then (if key then eqb v 0x5A else false) else false

@@ -114,7 +114,7 @@ pub fn overrun(aiptrrst: bool, place: usize) -> bool
 
 // ---- the key of PRESET
 
-fn is_preset(reg: Register) -> bool
+pub fn is_preset(reg: Register) -> bool
     ensures { λ r. ⌜ r ≡ presetOf reg ⌝ }
 {
     match reg {
@@ -133,16 +133,18 @@ fn is_preset(reg: Register) -> bool
     }
 }
 
-pub fn key_after(reg: Register, v: u8) -> bool
-    ensures { λ r. ⌜ r ≡ keyAfter reg v ⌝ }
+// Whether a write, at a reset register or not, leaves its A5h.
+pub fn key_after(preset: bool, v: u8) -> bool
+    ensures { λ r. ⌜ r ≡ keyAfter preset v ⌝ }
 {
-    if is_preset(reg) { v == 0xA5 } else { false }
+    if preset { v == 0xA5 } else { false }
 }
 
-pub fn resets(reg: Register, v: u8, key: bool) -> bool
-    ensures { λ r. ⌜ r ≡ resetsOf reg v key ⌝ }
+// Whether a write, at a reset register or not, resets.
+pub fn resets(preset: bool, v: u8, key: bool) -> bool
+    ensures { λ r. ⌜ r ≡ resetsOf preset v key ⌝ }
 {
-    if is_preset(reg) {
+    if preset {
         if key { v == 0x5A } else { false }
     } else {
         false

@@ -1,6 +1,7 @@
 // What the tables say: starts, skipped transactions, and the first that is not skipped.
 ghost use mathlib.Core.Path.{_≡_};
 ghost use Prim.Native.Nat.{_+_, _*_, _<_, _≤_};
+ghost use lib.ListN.{length, replicate};
 ghost use Rattle.rules.specs.Tables.{startOf, fitting, readsOf, skippedOf, firstSent, marked};
 
 // A byte as an index: the number, and that it is below 256, which a caller's arithmetic wants.
@@ -70,6 +71,17 @@ pub fn mark(status: &mut [u8; 64], from: usize, to: usize)
     let mut i = from;
     while i < to {
         status[i] = 0x02;
+        i += 1;
+    }
+}
+
+// Zeroes the bytes.
+pub fn wipe(mem: &mut [u8])
+    ensures { λ _. ⌜ now (mem .exit) ≡ replicate (length (now (mem .entry))) 0 ⌝ }
+{
+    let mut i = 0;
+    while i < mem.len() {
+        mem[i] = 0;
         i += 1;
     }
 }

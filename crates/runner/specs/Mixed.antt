@@ -1,4 +1,4 @@
--- DEMAND 3 of document 01, of the running code: said of the promise of `run` (Run.antt), for a call with steps that mix three channels' lists and
+-- DEMAND 3, of the running code: said of the promise of `run` (Run.antt), for a call with steps that mix three channels' lists and
 -- a call with list 0, then 1, then 2. A reader has to believe this page down to the line, Run.antt, Bytes.antt, and what crate independent's
 -- Statement.antt names; all below the line is proof.
 use Prim.Native.Nat.{ℕ}

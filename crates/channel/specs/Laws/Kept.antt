@@ -24,7 +24,7 @@ use Rattle.sequence.specs.declared.wires.Ask.{Ask}
 use Rattle.sequence.specs.declared.wires.Ask.the-variants.{Nothing, Overrun, Begin, Wait, Sto, Seq, Leave}
 use Rattle.rules.specs.Registers.{activeOf, commandOf, maskKept, placeOf}
 use Rattle.rules.specs.Tables.{startOf}
-use Rattle.rules.specs.Access.{lockedOf, tooMany, keptIf, rewound, atMost, pointedAt, overrunOf, keyAfter, resetsOf}
+use Rattle.rules.specs.Access.{lockedOf, tooMany, keptIf, rewound, atMost, pointedAt, overrunOf, presetOf, keyAfter, resetsOf}
 use Rattle.rules.specs.Range.{pointersIn, registersIn, countingOf, endedIn, blankOf, recordedIn, walkIn, frameIn}
 use Rattle.sequence.specs.Wires.{startAsked, stopAsked, leaveAsked, askedIn, askOf}
 use Rattle.sequence.specs.Walk.{stoRecorded, seqRecorded}
@@ -265,8 +265,8 @@ fresh-in = (refl, refl, refl, refl)
 put-in : (c : Channel) (reg : Register) (v : ℕ) → In c → Good (putOf c reg v)
 unfolding putOf writeOf
 put-in c reg v h =
-    pick-holds Good (resetsOf reg v (c .key)) (λ _. fresh-in)
-    (λ _. guarded-in _ (withKey c (keyAfter reg v)) _ h (λ e. write-in (withKey c (keyAfter reg v)) reg v e h))
+    pick-holds Good (resetsOf (presetOf reg) v (c .key)) (λ _. fresh-in)
+    (λ _. guarded-in _ (withKey c (keyAfter (presetOf reg) v)) _ h (λ e. write-in (withKey c (keyAfter (presetOf reg) v)) reg v e h))
 
 -- ---- the step
 module _ (c : Channel) (m : List ℕ) (number : ℕ) (h : In c) where
@@ -343,8 +343,8 @@ module _ (c : Channel) (m : List ℕ) (number : ℕ) (whole : length m ≡ 4352)
   put-length : (reg : Register) (v : ℕ) → Same m (putStore c m reg v)
   unfolding putStore writeStore
   put-length reg v =
-      pick-holds (Same m) (resetsOf reg v (c .key)) (λ _. zeros-length ∙ sym whole)
-      (λ _. pick-holds (Same m) (eqb (refusalOf (withKey c (keyAfter reg v)) reg v) 0) (λ _. stored-length _ m reg v) (λ _. refl))
+      pick-holds (Same m) (resetsOf (presetOf reg) v (c .key)) (λ _. zeros-length ∙ sym whole)
+      (λ _. pick-holds (Same m) (eqb (refusalOf (withKey c (keyAfter (presetOf reg) v)) reg v) 0) (λ _. stored-length _ m reg v) (λ _. refl))
 
   store-length : (p : Place) (v : ℕ) → Same m (storeAt c m p v)
   unfolding storeAt

@@ -7,6 +7,7 @@ use native.Mathlib.Omega.{arith}
 use borrow.Author.Tests.{eq-eqb}
 use lib.ListN.{length, getD, set, length-replicate}
 use Rattle.laws.specs.Cases.{pick-holds, both, with}
+use Rattle.rules.specs.Access.{keyAfter, resetsOf}
 use Rattle.sequence.specs.declared.wires.Edge.{Edge}
 use Rattle.channel.specs.declared.state.Channel.{Channel}
 use Rattle.channel.specs.declared.step.Op.{Op}
@@ -23,7 +24,7 @@ use Rattle.part.specs.declared.state.Part.{Part}
 use Rattle.part.specs.declared.state.PartStepped.{PartStepped}
 use Rattle.part.specs.State.{blank, chan, freshPart, wiped, window, withKey}
 use Rattle.part.specs.Map.{targetOf, InPart}
-use Rattle.part.specs.Registers.{ctrlKept, ctrlRead, ctrlWritten, ctrlKeyAfter, ctrlResets, ctrlPut, ctrlStore}
+use Rattle.part.specs.Registers.{ctrlKept, ctrlRead, ctrlWritten, ctrlpresetOf, ctrlPut, ctrlStore}
 use Rattle.part.specs.Step.{edgeChannel, oneStep, oneBytes, triggerStep, partServed, partStored, channelsIn, maskIn, partIn, accepts, partStep, partBytes, Whole}
 use Rattle.part.specs.Laws.Map.{in-part}
 use Rattle.part.specs.Laws.Memory.{fits, length-window, length-put}
@@ -94,7 +95,7 @@ module _ (p : Part) (h : In p) where
 
   put-in : (reg : Ctrl) (v : ℕ) → Good (ctrlPut p reg v)
   unfolding ctrlPut Good
-  put-in reg v = pick-holds Good (ctrlResets reg v (p .key)) (λ _. fresh-in) (λ _. written-in (ctrlKeyAfter reg v) reg v)
+  put-in reg v = pick-holds Good (resetsOf (ctrlpresetOf reg) v (p .key)) (λ _. fresh-in) (λ _. written-in (keyAfter (ctrlpresetOf reg) v) reg v)
 
   served-in : (m : List ℕ) (t : Target) → Good (partServed p m t)
   unfolding partServed Good
@@ -140,7 +141,7 @@ module _ (p : Part) (m : List ℕ) (whole : length m ≡ 13056) where
   stored-length : (t : Target) → InPart t → Same m (partStored p m t)
   unfolding partStored ctrlStore Same
   stored-length (One c op) h = one-bytes-length c op h
-  stored-length (CtrlWrite reg v) h = pick-holds (Same m) (ctrlResets reg v (p .key)) (λ _. wiped-length ∙ sym whole) (λ _. refl)
+  stored-length (CtrlWrite reg v) h = pick-holds (Same m) (resetsOf (ctrlpresetOf reg) v (p .key)) (λ _. wiped-length ∙ sym whole) (λ _. refl)
   stored-length (CtrlRead reg) h = refl
   stored-length (AllTrigger edge) h = refl
   stored-length AllReset h = wiped-length ∙ sym whole

@@ -1,7 +1,6 @@
 -- `rules::access::key_after` meets its contract.
 use Rattle.laws.specs.Cases.{cases}
 use Rattle.rules.specs.Access.{keyAfter}
-use borrow.Author.Needs.{needs}
 use Rattle.rules.proofs.access.key_after.Statement.{statement}
 use Rattle.rules.proofs.access.key_after.Tie as tie
 
@@ -10,6 +9,5 @@ unfolding keyAfter
 key-after-spec =
     tie.close
     (tie.spec
-    (λ c. search needs)
     (λ c. search cases depth 12)
     (λ c. search cases depth 12))

@@ -1,7 +1,6 @@
 -- `rules::access::resets` meets its contract.
 use Rattle.laws.specs.Cases.{cases}
 use Rattle.rules.specs.Access.{resetsOf}
-use borrow.Author.Needs.{needs}
 use Rattle.rules.proofs.access.resets.Statement.{statement}
 use Rattle.rules.proofs.access.resets.Tie as tie
 
@@ -10,7 +9,6 @@ unfolding resetsOf
 resets-spec =
     tie.close
     (tie.spec
-    (λ c. search needs)
     (λ c. search cases depth 12)
     (λ c. search cases depth 12)
     (λ c. search cases depth 12))

@@ -1,14 +1,13 @@
--- `channel::access::wipe` meets its contract: after i turns the list is i zeros and the rest as it was.
+-- `rules::tables::wipe` meets its contract: after i turns the list is i zeros and the rest as it was.
 use Prim.Native.Nat.{_-_, _<_, _≤_, ℕ}
-use Rattle.channel.specs.State.{zeros}
 use borrow.Author.Fill.{fill-more}
 use borrow.Author.Needs.{needs}
 use lib.ListN.{drop, drop-of-length-le, length, length-set, replicate, set}
 use mathlib.Core.List.{List, _++_, append-nil}
 use mathlib.Core.Path.{_∙_, _≡_, ap}
 use native.Mathlib.Omega.{arith}
-use Rattle.channel.proofs.access.wipe.Statement.{statement}
-use Rattle.channel.proofs.access.wipe.Tie as tie
+use Rattle.rules.proofs.tables.wipe.Statement.{statement}
+use Rattle.rules.proofs.tables.wipe.Tie as tie
 
 abbrev Inv-loop : tie.InvT-loop
 Inv-loop mem₀ i₀ mem i = (i ≤ length mem₀) × (length mem ≡ length mem₀) × (mem ≡ replicate i 0 ++ drop i mem₀)
@@ -17,7 +16,6 @@ abbrev μ-loop : tie.MeasureT-loop
 μ-loop mem₀ i₀ mem i = length mem - i
 
 pub wipe-spec : {M : Type 1} → statement M
-unfolding zeros
 wipe-spec =
     tie.close
     (tie.spec
@@ -29,4 +27,4 @@ wipe-spec =
     (λ c. simp length-set (omega arith))
     (λ c. let i = c .before .loop .i in let d = c .before .before .args .mem .now in let h : i < length d = omega arith in (omega arith, simp length-set (c .before .loop .inv .1), ap (λ (l : List ℕ). set l i 0) (c .before .loop .inv .2) ∙ fill-more i 0 d h))
     (λ c. search needs)
-    (λ c. let i = c .before .loop .i in let d = c .before .before .args .mem .now in let e : i ≡ 4352 = omega arith in let h : length d ≤ i = omega arith in c .before .loop .inv .2 ∙ ap (λ (l : List ℕ). replicate i 0 ++ l) (drop-of-length-le d h) ∙ append-nil _ ∙ ap (λ (n : ℕ). replicate n 0) e))
+    (λ c. let i = c .before .loop .i in let d = c .before .before .args .mem .now in let e : i ≡ length d = omega arith in let h : length d ≤ i = omega arith in c .before .loop .inv .2 ∙ ap (λ (l : List ℕ). replicate i 0 ++ l) (drop-of-length-le d h) ∙ append-nil _ ∙ ap (λ (n : ℕ). replicate n 0) e))
