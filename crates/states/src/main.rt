@@ -3,6 +3,7 @@
 // hardware reset. A printed line is one row: the alterations, the step, and for each call the answer's number and whether the whole record and every byte
 // of the memory were left.
 ghost use Prim.Native.Nat.{_<_};
+ghost use lib.ListN.{length};
 use channel::Channel;
 use channel::Op;
 use channel::Stepped;
@@ -801,35 +802,40 @@ fn walk_of(k: [usize; 32]) -> Walk {
 }
 
 fn channel_of(k: [usize; 32]) -> Channel {
-    let mut c = Channel::new();
-    let regs = Regs {
-        intmsk: byte(k[13]),
-        transel: byte(k[14]),
-        tranofs: 0,
-        tp: false,
-        te: k[8] == 1,
-    };
-    let ptrs = Ptrs {
-        sla: k[15],
-        conf: k[16],
-        buf: k[17],
-        count: k[18],
-    };
+    let slatable = [byte(k[0]); 64];
+    let mut tranconfig = [byte(k[2]); 65];
+    tranconfig[0] = byte(k[1]);
+    tranconfig[18] = byte(k[3]);
+    let status = [byte(k[19]); 64];
+    let mut bytecount = [0u8; 64];
+    bytecount[k[4] % 64] = byte(k[5]);
+    let settings = [byte(k[7]), 0x00, 0x5E, 0x3F, 0x92, 0x00];
+    let mut flags = sequence::no_flags();
+    flags.sd = k[21] == 1;
     let walk = walk_of(k);
-    let entry = k[4] % 64;
-    c.slatable = [byte(k[0]); 64];
-    c.tranconfig = [byte(k[2]); 65];
-    c.tranconfig[0] = byte(k[1]);
-    c.tranconfig[18] = byte(k[3]);
-    c.status = [byte(k[19]); 64];
-    c.bytecount[entry] = byte(k[5]);
-    c.settings[0] = byte(k[7]);
-    c.regs = regs;
-    c.ptrs = ptrs;
-    c.walk = walk;
-    c.flags.sd = k[21] == 1;
-    c.key = k[20] == 1;
-    c
+    Channel {
+        slatable,
+        tranconfig,
+        status,
+        bytecount,
+        settings,
+        regs: Regs {
+            intmsk: byte(k[13]),
+            transel: byte(k[14]),
+            tranofs: 0,
+            tp: false,
+            te: k[8] == 1,
+        },
+        flags,
+        ptrs: Ptrs {
+            sla: k[15],
+            conf: k[16],
+            buf: k[17],
+            count: k[18],
+        },
+        walk,
+        key: k[20] == 1,
+    }
 }
 
 fn part_of(k: [usize; 32], i: usize) -> Part
@@ -921,24 +927,22 @@ fn untouched(mem: &[u8; 13058]) -> bool {
 
 // ---- the calls
 
-fn step_channel(c: Channel, number: u8, mem: &mut [u8], n: usize, op: Op) -> Stepped {
-    if mem.len() < n {
-        return c.step(number, mem, op);
-    }
+fn step_channel(c: Channel, number: u8, mem: &mut [u8], n: usize, op: Op) -> Stepped
+    requires { ⌜ n < length (now mem) ⌝ }
+{
     c.step(number, &mut mem[..n], op)
 }
 
-fn step_part(p: Part, mem: &mut [u8], n: usize, s: Step) -> PartStepped {
-    if mem.len() < n {
-        return p.step(mem, s);
-    }
+fn step_part(p: Part, mem: &mut [u8], n: usize, s: Step) -> PartStepped
+    requires { ⌜ n < length (now mem) ⌝ }
+{
     p.step(&mut mem[..n], s)
 }
 
 fn call_channel(k: [usize; 32], op: Op) {
     let mut mem = [0x3Cu8; 13058];
     let c = channel_of(k);
-    let r = step_channel(c, byte(k[25]), &mut mem, k[26], op);
+    let r = step_channel(c, byte(k[25]), &mut mem, k[26] % 13058, op);
     let after = r.channel;
     let left = same_channel(c, after) && untouched(&mem);
     let a = r.answer;
@@ -950,7 +954,7 @@ fn call_part(k: [usize; 32], i: usize, s: Step)
 {
     let mut mem = [0x3Cu8; 13058];
     let p = part_of(k, i);
-    let r = step_part(p, &mut mem, k[27], s);
+    let r = step_part(p, &mut mem, k[27] % 13058, s);
     let after = r.part;
     let left = same_part(p, after) && untouched(&mem);
     let a = r.answer;
