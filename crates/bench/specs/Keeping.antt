@@ -2,7 +2,7 @@
 use Prim.Native.Nat.{ℕ, _+_}
 use mathlib.Core.List.{List, [], _∷_}
 use lib.Dec.{eqb, leb, ltb}
-use lib.ListN.{set, take}
+use lib.ListN.{replicate, set, take}
 use Rattle.laws.specs.Pick.{if_then_else_}
 use Rattle.part.specs.declared.state.Part.{Part}
 use Rattle.part.specs.declared.state.PartStepped.{PartStepped}
@@ -13,7 +13,11 @@ use Rattle.script.specs.declared.reading.Line.{Line}
 use Rattle.script.specs.declared.reading.Line.the-variants.{Readable, Unreadable}
 use Rattle.bench.specs.declared.Start.{Start}
 
--- one more byte, while there are fewer than 12: the first 12 are read as the whole line is (`first-twelve` of crate script)
+-- no byte of the line is there yet
+abbrev pub noLine : Start
+noLine = record { bytes = replicate 12 0; len = 0 }
+
+-- one more byte, while there are fewer than 12: the first 12 are read as the whole line is (`read-in-pieces`, Laws/Lines.antt)
 unfoldable pub withByte : Start → ℕ → Start
 withByte s b = if ltb (s .len) 12 then record { bytes = set (s .bytes) (s .len) b; len = s .len + 1 } else s
 

@@ -4,7 +4,7 @@ ghost use mathlib.Core.Path.{_≡_};
 ghost use Prim.Native.Nat.{_≤_};
 ghost use lib.ListN.{length};
 ghost use Rattle.part.specs.Step.{partIn, Whole};
-ghost use Rattle.bench.specs.Keeping.{withByte, lengthened, readOf, readOn, performed, performedBytes, nextOf};
+ghost use Rattle.bench.specs.Keeping.{noLine, withByte, lengthened, readOf, readOn, performed, performedBytes, nextOf};
 use libc::STDIN_FILENO;
 use libc::STDOUT_FILENO;
 use part::Part;
@@ -35,7 +35,7 @@ struct Bench {
 // ---- a line
 
 fn no_line() -> Start
-    ensures { λ r. ⌜ r .len ≡ 0 ⌝ }
+    ensures { λ r. ⌜ r ≡ noLine ⌝ }
 {
     Start {
         bytes: [0; 12],

@@ -1,0 +1,2 @@
+-- Laws of the definitions. Nothing here needs to be believed: it is proved.
+pub mod Lines
