@@ -1,16 +1,9 @@
--- What the script program keeps of a line, what a line does, and how the steps are counted.
+-- What the script program keeps of a line, and how the steps are counted.
 use Prim.Native.Nat.{ℕ, _+_}
 use mathlib.Core.List.{List, [], _∷_}
-use lib.Dec.{eqb, leb, ltb}
-use lib.ListN.{replicate, set, take}
+use lib.Dec.{eqb, ltb}
+use lib.ListN.{replicate, set}
 use Rattle.laws.specs.Pick.{if_then_else_}
-use Rattle.part.specs.declared.state.Part.{Part}
-use Rattle.part.specs.declared.state.PartStepped.{PartStepped}
-use Rattle.part.specs.Step.{partStep, partBytes}
-use Rattle.script.specs.Answer.{noAnswer}
-use Rattle.script.specs.Grammar.{lineOf}
-use Rattle.script.specs.declared.reading.Line.{Line}
-use Rattle.script.specs.declared.reading.Line.the-variants.{Readable, Unreadable}
 use Rattle.bench.specs.declared.Start.{Start}
 
 -- no byte of the line is there yet
@@ -26,22 +19,9 @@ abbrev pub lengthened : Start → List ℕ → Start
 lengthened s [] = s
 lengthened s (b ∷ l) = lengthened (withByte s b) l
 
--- the first n of the bytes kept, as a line
-unfoldable pub readOf : List ℕ → ℕ → Line
-readOf bytes n = if leb n 12 then lineOf (take n bytes) else Unreadable
-
--- the line that was begun, with the rest of its bytes
-unfoldable pub readOn : Start → List ℕ → Line
-readOn s rest = if eqb (s .len) 0 then lineOf rest else readOf (lengthened s rest .bytes) (lengthened s rest .len)
-
--- a line that can be read is a step of the part; one that can't is no. 8, and leaves all
-abbrev pub performed : Part → List ℕ → Line → PartStepped
-performed p m (Readable s) = partStep p m s
-performed p m Unreadable = record { part = p; answer = noAnswer }
-
-abbrev pub performedBytes : Part → List ℕ → Line → List ℕ
-performedBytes p m (Readable s) = partBytes p m s
-performedBytes p m Unreadable = m
+-- how many bytes are kept of a line, 12 at most
+unfoldable pub keptOf : ℕ → ℕ
+keptOf len = if ltb len 12 then len else 12
 
 -- the number of the next step, which stays at the largest one
 unfoldable pub nextOf : ℕ → ℕ

@@ -1,15 +1,22 @@
 // The script program: steps on standard input, a line each, and a line of answer for each on standard output, over one part.
 ghost use mathlib.Core.Bool.{true};
 ghost use mathlib.Core.Path.{_≡_};
-ghost use Prim.Native.Nat.{_≤_};
-ghost use lib.ListN.{length};
+ghost use Prim.Native.Nat.{_-_, _≤_};
+ghost use lib.ListN.{length, take};
+ghost use lib.Seq.{sets};
+ghost use Rattle.part.specs.Map.{InPart};
 ghost use Rattle.part.specs.Step.{partIn, Whole};
-ghost use Rattle.bench.specs.Keeping.{noLine, withByte, lengthened, readOf, readOn, performed, performedBytes, nextOf};
+ghost use Rattle.bench.specs.Keeping.{noLine, withByte, lengthened, keptOf, nextOf};
+ghost use Rattle.bench.specs.Performing.{aimAt, aimOf, InAim, performedRest, restBytes, Follows};
+use channel::Head;
+use channel::Op;
 use libc::STDIN_FILENO;
 use libc::STDOUT_FILENO;
+use part::Common;
 use part::Part;
 use part::PartAnswer;
 use part::PartStepped;
+use part::Target;
 use script::Line;
 
 // The line that is being read: its first twelve bytes, since no line of more than eleven can be read.
@@ -70,26 +77,21 @@ fn lengthen(line: Start, more: &[u8]) -> Start
     longer
 }
 
-fn read(bytes: [u8; 12], n: usize) -> Line
-    ensures { λ r. ⌜ r ≡ readOf bytes n ⌝ }
+fn kept(len: usize) -> usize
+    ensures { λ r. ⌜ (r ≡ keptOf len) × (r ≤ 12) ⌝ }
 {
-    if n <= 12 {
-        return script::read_line(&bytes[..n]);
-    }
-    Line::Unreadable
+    if len < 12 { len } else { 12 }
 }
 
-// The line that was begun, with the rest of its bytes.
-fn read_on(line: Start, rest: &[u8]) -> Line
-    ensures { λ r. ⌜ r ≡ readOn line (now (rest .entry)) ⌝ }
+// Puts the n bytes that are kept of a line right before place 12 of the block, where a read goes on, and gives their place: so the line stands there
+// in one piece.
+fn put_start(bytes: [u8; 12], n: usize, block: &mut [u8]) -> usize
+    requires { ⌜ (n ≤ 12) × (12 ≤ length (now block)) ⌝ }
+    ensures { λ r. ⌜ (r ≡ 12 - n) × (now (block .exit) ≡ sets (now (block .entry)) r (take n bytes)) ⌝ }
 {
-    if line.len == 0 {
-        return script::read_line(rest);
-    }
-    let whole = lengthen(line, rest);
-    let bytes = whole.bytes;
-    let n = whole.len;
-    read(bytes, n)
+    let at = 12 - n;
+    script::put(block, at, &bytes[..n]);
+    at
 }
 
 // The place of the first LF from a place on, or the block's end.
@@ -107,14 +109,45 @@ fn line_end(block: &[u8], from: usize) -> usize
     i
 }
 
-// What a line does. One that can't be read is no. 8 and leaves the part.
-fn perform(part: Part, mem: &mut [u8], line: Line) -> PartStepped
-    requires { ⌜ Whole part (now mem) ⌝ }
-    ensures { λ r. ⌜ (r ≡ performed part (now (mem .entry)) line) × (now (mem .exit) ≡ performedBytes part (now (mem .entry)) line) × Whole (r .part) (now (mem .exit)) ⌝ }
+// What concerns no single channel: a step of the whole part, or a line that can't be read.
+enum Rest {
+    All(Common),
+    Unread,
+}
+
+// What a line asks for: a step of one channel, or something else.
+enum Aim {
+    One(u8, Op),
+    Others(Rest),
+}
+
+fn aim_at(t: Target) -> Aim
+    requires { ⌜ InPart t ⌝ }
+    ensures { λ r. ⌜ (r ≡ aimAt t) × InAim r ⌝ }
+{
+    match t {
+        Target::One(c, op) => Aim::One(c, op),
+        Target::All(w) => Aim::Others(Rest::All(w)),
+    }
+}
+
+fn aim_of(line: Line) -> Aim
+    ensures { λ r. ⌜ (r ≡ aimOf line) × InAim r ⌝ }
 {
     match line {
-        Line::Readable(s) => part.advance(mem, s),
-        Line::Unreadable => PartStepped {
+        Line::Readable(s) => aim_at(part::target_of(s)),
+        Line::Unreadable => Aim::Others(Rest::Unread),
+    }
+}
+
+// A line that can't be read is no. 8 and leaves the part.
+fn perform(part: Part, mem: &mut [u8], t: Rest) -> PartStepped
+    requires { ⌜ Whole part (now mem) ⌝ }
+    ensures { λ r. ⌜ (r ≡ performedRest part t) × (now (mem .exit) ≡ restBytes part (now (mem .entry)) t) ⌝ }
+{
+    match t {
+        Rest::All(w) => part.serve_all(mem, w),
+        Rest::Unread => PartStepped {
             part,
             answer: script::unreadable(),
         },
@@ -180,35 +213,93 @@ fn next_number(step: u64) -> u64
     step + 1
 }
 
-// Answers each line that ends in a block, and keeps the start of the one that doesn't.
+// Answers each line that ends in the block, and keeps the start of the one that doesn't. A line of one channel is served in the channel's place, so that
+// the part is not copied.
 fn answer_block(b: Bench, block: &[u8], mem: &mut [u8], out: &mut [u8]) -> Bench
     requires { ⌜ Whole (b .part) (now mem) ⌝ }
-    ensures { λ r. ⌜ Whole (r .part) (now (mem .exit)) ⌝ }
+    ensures { λ r. ⌜ Follows (b .part) (now (mem .entry)) (r .part) (now (mem .exit)) ⌝ }
 {
     let mut part = b.part;
     let mut step = b.step;
-    let mut line = b.line;
     let mut output = b.output;
     let mut from = 0;
     let mut end = line_end(block, 0);
     while end < block.len() && output.running {
-        let l = read_on(line, &block[from..end]);
-        let r = perform(part, mem, l);
-        let after = r.part;
-        let answer = r.answer;
-        part = after;
+        let l = script::read_line(&block[from..end]);
+        let a = aim_of(l);
+        let mut answer = script::unreadable();
+        match a {
+            Aim::One(c, op) => {
+                let i = c as usize;
+                let start = 4352 * i;
+                let till = start + 4352;
+                let s = part.channels[i];
+                let mut sla = s.slatable;
+                let mut lens = s.tranconfig;
+                let mut status = s.status;
+                let mut counts = s.bytecount;
+                let mut settings = s.settings;
+                let regs = s.regs;
+                let flags = s.flags;
+                let ptrs = s.ptrs;
+                let walk = s.walk;
+                let h = Head {
+                    regs,
+                    flags,
+                    ptrs,
+                    walk,
+                    key: s.key,
+                };
+                let r = h.serve_lent(
+                    &mut sla,
+                    &mut lens,
+                    &mut status,
+                    &mut counts,
+                    &mut settings,
+                    c,
+                    &mut mem[start..till],
+                    op,
+                );
+                let g = r.head;
+                let after = g.join(sla, lens, status, counts, settings);
+                part.channels[i] = after;
+                let given = r.answer;
+                let told = part::tell_one(part.be, part.key, c, op, given);
+                part.be = told.be;
+                part.key = told.key;
+                let reply = told.answer;
+                answer = reply;
+            }
+            Aim::Others(t) => {
+                let r = perform(part, mem, t);
+                let after = r.part;
+                let reply = r.answer;
+                part = after;
+                answer = reply;
+            }
+        }
         step = next_number(step);
         output = put_answer(output, step, answer, part.interrupt(), out);
-        line = no_line();
         from = end + 1;
         end = line_end(block, from);
     }
     Bench {
         part,
         step,
-        line: lengthen(line, &block[from..]),
+        line: lengthen(no_line(), &block[from..]),
         output: flush(output, out),
     }
+}
+
+// Answers the line that was begun and what the block has from place 12 up to a place.
+fn answer_from(b: Bench, block: &mut [u8], till: usize, mem: &mut [u8], out: &mut [u8]) -> Bench
+    requires { ⌜ Whole (b .part) (now mem) × (12 ≤ till) × (till ≤ length (now block)) ⌝ }
+    ensures { λ r. ⌜ Follows (b .part) (now (mem .entry)) (r .part) (now (mem .exit)) ⌝ }
+{
+    let line = b.line;
+    let bytes = line.bytes;
+    let at = put_start(bytes, kept(line.len), block);
+    answer_block(b, &block[at..till], mem, out)
 }
 
 // The program ends.
@@ -224,28 +315,29 @@ fn stop(mut b: Bench) -> Bench
 }
 
 // The input has ended: what follows the last LF is a line if it has a byte.
-fn finish(b: Bench, mem: &mut [u8], out: &mut [u8]) -> Bench
-    requires { ⌜ Whole (b .part) (now mem) ⌝ }
-    ensures { λ r. ⌜ Whole (r .part) (now (mem .exit)) ⌝ }
+fn finish(b: Bench, block: &mut [u8], mem: &mut [u8], out: &mut [u8]) -> Bench
+    requires { ⌜ Whole (b .part) (now mem) × (13 ≤ length (now block)) ⌝ }
+    ensures { λ r. ⌜ Follows (b .part) (now (mem .entry)) (r .part) (now (mem .exit)) ⌝ }
 {
     let line = b.line;
     if 0 < line.len {
-        return stop(answer_block(b, b"\n", mem, out));
+        script::put(block, 12, b"\n");
+        return stop(answer_from(b, block, 13, mem, out));
     }
     stop(b)
 }
 
 // One read, of what is there, and the answers to its lines.
 fn turn(b: Bench, block: &mut [u8], mem: &mut [u8], out: &mut [u8]) -> Bench
-    requires { ⌜ Whole (b .part) (now mem) ⌝ }
-    ensures { λ r. ⌜ Whole (r .part) (now (mem .exit)) ⌝ }
+    requires { ⌜ Whole (b .part) (now mem) × (length (now block) ≡ 65536) ⌝ }
+    ensures { λ r. ⌜ Follows (b .part) (now (mem .entry)) (r .part) (now (mem .exit)) ⌝ }
 {
-    let got = libc::read(STDIN_FILENO, block);
-    let n = io::count(got, block);
+    let got = libc::read(STDIN_FILENO, &mut block[12..]);
+    let n = io::count(got, &block[12..]);
     if n == 0 {
-        return finish(b, mem, out);
+        return finish(b, block, mem, out);
     }
-    answer_block(b, &block[..n], mem, out)
+    answer_from(b, block, 12 + n, mem, out)
 }
 
 // The program begins: the part after a reset, and the header is written.

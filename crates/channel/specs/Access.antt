@@ -6,6 +6,7 @@ use lib.Dec.{eqb}
 use lib.ListN.{getD, set}
 use Rattle.laws.specs.Pick.{if_then_else_}
 use Rattle.rules.specs.declared.registers.Command.{Command}
+use Rattle.rules.specs.declared.state.Ptrs.{Ptrs}
 use Rattle.rules.specs.declared.registers.Register.{Register}
 use Rattle.rules.specs.declared.registers.Register.the-variants.{Status, Control, Chstatus, Intmsk, Slatable, Tranconfig, Data, Transel, Tranofs, Bytecount, Setting, Preset}
 use Rattle.sequence.specs.declared.wires.Ask.{Ask}
@@ -24,19 +25,19 @@ use Rattle.channel.specs.Wires.{begun, endedBy}
 -- ---- reads
 
 -- no. 4 past SLATABLE's, TRANCONFIG's or BYTECOUNT's last entry; no. 5 for DATA at 4,352
-unfoldable pub readRefusal : Channel → Register → ℕ
-readRefusal c (Status n) = 0
-readRefusal c Control = 0
-readRefusal c Chstatus = 0
-readRefusal c Intmsk = 0
-readRefusal c Slatable = pastRefusal 63 (c .ptrs .sla)
-readRefusal c Tranconfig = pastRefusal 64 (c .ptrs .conf)
-readRefusal c Data = placeRefusal (c .ptrs .buf)
-readRefusal c Transel = 0
-readRefusal c Tranofs = 0
-readRefusal c Bytecount = pastRefusal 63 (c .ptrs .count)
-readRefusal c (Setting n) = 0
-readRefusal c Preset = 0
+unfoldable pub readRefusal : Ptrs → Register → ℕ
+readRefusal p (Status n) = 0
+readRefusal p Control = 0
+readRefusal p Chstatus = 0
+readRefusal p Intmsk = 0
+readRefusal p Slatable = pastRefusal 63 (p .sla)
+readRefusal p Tranconfig = pastRefusal 64 (p .conf)
+readRefusal p Data = placeRefusal (p .buf)
+readRefusal p Transel = 0
+readRefusal p Tranofs = 0
+readRefusal p Bytecount = pastRefusal 63 (p .count)
+readRefusal p (Setting n) = 0
+readRefusal p Preset = 0
 
 -- CONTROL: recorded STOSEQ, STA (active), recorded STO, TP, TE
 abbrev pub controlOf : Channel → ℕ
@@ -58,7 +59,7 @@ readBy c m (Setting n) = replied c (getD (c .settings) n 0)
 readBy c m Preset = plain c
 
 unfoldable pub readOf : Channel → List ℕ → Register → Stepped
-readOf c m reg = guarded (readRefusal c reg) c (readBy c m reg)
+readOf c m reg = guarded (readRefusal (c .ptrs) reg) c (readBy c m reg)
 
 -- ---- a write to CONTROL
 

@@ -226,18 +226,18 @@ triggered c edge = beaten c (edgeBeat (c .walk .phase) (c .regs .te) (c .regs .t
 -- ---- what the range gives
 
 -- a byte of transaction n is awaited
-pub record Counting (c : Channel) (n : ℕ) : Type 0 where
-  pub running : Running (c .tranconfig) n
-  pub short : bytesOf c n < lengthOf c n
+pub record Counting (lens counts : List ℕ) (n : ℕ) : Type 0 where
+  pub running : Running lens n
+  pub short : getD counts n 0 < getD lens (n + 1) 0
 
 -- what a turn may rely on
 abbrev pub Meets : Channel → Turn → Type 0
 Meets c Unawaited = Unit {0}
 Meets c (AckAddress n) = Running (c .tranconfig) n
-Meets c (AckSending n) = Counting c n
+Meets c (AckSending n) = Counting (c .tranconfig) (c .bytecount) n
 Meets c (NackAddress n) = Running (c .tranconfig) n
 Meets c (NackSending n) = Running (c .tranconfig) n
-Meets c (Receive n b) = Counting c n
+Meets c (Receive n b) = Counting (c .tranconfig) (c .bytecount) n
 Meets c Begin = countOf c ≤ 64
 Meets c Late = Unit {0}
 Meets c End = Unit {0}

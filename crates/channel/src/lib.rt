@@ -7,5 +7,7 @@ mod wires;
 
 pub use state::Answer;
 pub use state::Channel;
+pub use state::Head;
+pub use state::Headed;
 pub use state::Stepped;
 pub use step::Op;

@@ -1,6 +1,7 @@
 // The record of a channel, what a step answers, and the changes of one part of the record.
 ghost use mathlib.Core.Path.{_≡_};
-ghost use Rattle.channel.specs.State.{fresh, refused, replied, acted, withWalk, withFlags, withKey};
+ghost use Rattle.channel.specs.State.{fresh, refused};
+ghost use Rattle.channel.specs.Head.{freshHead, joined, told, headWalk, headFlags, headKey};
 use rules::Flags;
 use rules::Ptrs;
 use rules::Regs;
@@ -8,13 +9,22 @@ use rules::Walk;
 use sequence::Action;
 
 // A channel: its tables, statuses and counts; the settings FRAMECNT, REFRATE, SCLL, SCLH, MODE and TIMEOUT; its other registers, flags, pointers,
-// the walk of its sequence, and whether A5h was written to PRESET.
+// the walk of its sequence, and whether A5h was written to PRESET. No two arrays stand side by side: so each is copied by itself, and quickly.
 pub struct Channel {
     pub slatable: [u8; 64],
-    pub tranconfig: [u8; 65],
+    pub ptrs: Ptrs,
     pub status: [u8; 64],
+    pub walk: Walk,
     pub bytecount: [u8; 64],
+    pub flags: Flags,
+    pub tranconfig: [u8; 65],
+    pub regs: Regs,
     pub settings: [u8; 6],
+    pub key: bool,
+}
+
+// A channel without its tables. A step takes it by value and has the tables lent, so that no table is copied from call to call.
+pub struct Head {
     pub regs: Regs,
     pub flags: Flags,
     pub ptrs: Ptrs,
@@ -35,17 +45,49 @@ pub struct Stepped {
     pub answer: Answer,
 }
 
+// What a step over lent tables gives back.
+pub struct Headed {
+    pub head: Head,
+    pub answer: Answer,
+}
+
 impl Channel {
     // The channel as a reset leaves it.
     pub fn new() -> Self
         ensures { λ r. ⌜ r ≡ fresh ⌝ }
     {
-        Channel {
-            slatable: [0; 64],
-            tranconfig: [0; 65],
-            status: [0; 64],
-            bytecount: [0; 64],
-            settings: [0x01, 0x00, 0x5E, 0x3F, 0x92, 0x00],
+        let h = Head::new();
+        h.join([0; 64], [0; 65], [0; 64], [0; 64], fresh_settings())
+    }
+
+    // The record with an answer's number and nothing else.
+    pub(crate) fn refuse(self, number: u8) -> Stepped
+        ensures { λ r. ⌜ r ≡ refused self number ⌝ }
+    {
+        Stepped {
+            channel: self,
+            answer: Answer {
+                number,
+                value: 0,
+                action: Action::Nothing,
+            },
+        }
+    }
+}
+
+// FRAMECNT, REFRATE, SCLL, SCLH, MODE and TIMEOUT as a reset leaves them.
+pub(crate) fn fresh_settings() -> [u8; 6]
+    ensures { λ r. ⌜ r ≡ fresh .settings ⌝ }
+{
+    [0x01, 0x00, 0x5E, 0x3F, 0x92, 0x00]
+}
+
+impl Head {
+    // The head as a reset leaves it.
+    pub(crate) fn new() -> Self
+        ensures { λ r. ⌜ r ≡ freshHead ⌝ }
+    {
+        Head {
             regs: Regs {
                 intmsk: 0,
                 transel: 0,
@@ -65,12 +107,12 @@ impl Channel {
         }
     }
 
-    // The record with an answer's number and nothing else.
-    pub(crate) fn refuse(self, number: u8) -> Stepped
-        ensures { λ r. ⌜ r ≡ refused self number ⌝ }
+    // The head with an answer's number and nothing else.
+    pub(crate) fn refuse(self, number: u8) -> Headed
+        ensures { λ r. ⌜ r ≡ told self number 0 Action.Nothing ⌝ }
     {
-        Stepped {
-            channel: self,
+        Headed {
+            head: self,
             answer: Answer {
                 number,
                 value: 0,
@@ -79,12 +121,12 @@ impl Channel {
         }
     }
 
-    // The record with the value of a read.
-    pub(crate) fn reply(self, value: u8) -> Stepped
-        ensures { λ r. ⌜ r ≡ replied self value ⌝ }
+    // The head with the value of a read.
+    pub(crate) fn reply(self, value: u8) -> Headed
+        ensures { λ r. ⌜ r ≡ told self 0 value Action.Nothing ⌝ }
     {
-        Stepped {
-            channel: self,
+        Headed {
+            head: self,
             answer: Answer {
                 number: 0,
                 value,
@@ -93,12 +135,12 @@ impl Channel {
         }
     }
 
-    // The record with an action.
-    pub(crate) fn act(self, action: Action) -> Stepped
-        ensures { λ r. ⌜ r ≡ acted self action ⌝ }
+    // The head with an action.
+    pub(crate) fn act(self, action: Action) -> Headed
+        ensures { λ r. ⌜ r ≡ told self 0 0 action ⌝ }
     {
-        Stepped {
-            channel: self,
+        Headed {
+            head: self,
             answer: Answer {
                 number: 0,
                 value: 0,
@@ -107,27 +149,56 @@ impl Channel {
         }
     }
 
-    pub(crate) fn with_walk(self, w: Walk) -> Channel
-        ensures { λ r. ⌜ r ≡ withWalk self w ⌝ }
+    pub(crate) fn with_walk(self, w: Walk) -> Head
+        ensures { λ r. ⌜ r ≡ headWalk self w ⌝ }
     {
-        let mut c = self;
-        c.walk = w;
-        c
+        let mut h = self;
+        h.walk = w;
+        h
     }
 
-    pub(crate) fn with_key(self, key: bool) -> Channel
-        ensures { λ r. ⌜ r ≡ withKey self key ⌝ }
+    pub(crate) fn with_key(self, key: bool) -> Head
+        ensures { λ r. ⌜ r ≡ headKey self key ⌝ }
     {
-        let mut c = self;
-        c.key = key;
-        c
+        let mut h = self;
+        h.key = key;
+        h
     }
 
-    pub(crate) fn with_flags(self, f: Flags) -> Channel
-        ensures { λ r. ⌜ r ≡ withFlags self f ⌝ }
+    pub(crate) fn with_flags(self, f: Flags) -> Head
+        ensures { λ r. ⌜ r ≡ headFlags self f ⌝ }
     {
-        let mut c = self;
-        c.flags = f;
-        c
+        let mut h = self;
+        h.flags = f;
+        h
+    }
+
+    // The channel of this head and these tables.
+    pub fn join(
+        self,
+        sla: [u8; 64],
+        lens: [u8; 65],
+        status: [u8; 64],
+        counts: [u8; 64],
+        settings: [u8; 6],
+    ) -> Channel
+        ensures { λ r. ⌜ r ≡ joined self sla lens status counts settings ⌝ }
+    {
+        let regs = self.regs;
+        let flags = self.flags;
+        let ptrs = self.ptrs;
+        let walk = self.walk;
+        Channel {
+            slatable: sla,
+            tranconfig: lens,
+            status,
+            bytecount: counts,
+            settings,
+            regs,
+            flags,
+            ptrs,
+            walk,
+            key: self.key,
+        }
     }
 }

@@ -1,14 +1,18 @@
-// Document 01, 'A sequence on the wires': frames, events and trigger edges over a channel's record.
+// Document 01, 'A sequence on the wires': frames, events and trigger edges over a channel's head and its tables.
 ghost use mathlib.Core.Bool.{true};
 ghost use mathlib.Core.Path.{_≡_};
 ghost use Prim.Native.Nat.{_+_, _<_, _≤_};
-ghost use lib.ListN.{length, set};
+ghost use lib.ListN.{length, set, getD};
+ghost use Rattle.rules.specs.Registers.{bitOf};
 ghost use Rattle.rules.specs.Tables.{startOf, Running};
-ghost use Rattle.sequence.specs.Wires.{Exists, Ready, nextOf};
-ghost use Rattle.channel.specs.State.{countOf, phaseSet, idled};
+ghost use Rattle.sequence.specs.Wires.{Exists, Ready, haltedOf, nextOf, restOf, endingOf, againBy};
+ghost use Rattle.sequence.specs.Walk.{idle, nackFlags, errorNoted, lateFlags, lateWalk, faultFlags};
+ghost use Rattle.channel.specs.Head.{joined, told, headWalk, headFlags, inPhase, endedSo, Turns, Counts, Starts, Begins, Walks, Sends};
 ghost use Rattle.channel.specs.Range.{inRange};
-ghost use Rattle.channel.specs.Wires.{lengthOf, bytesOf, byteAt, resolved, haltOf, endedBy, frameEnded, passed, stopped, sentTo, movedTo, onward, finished, startedBy, started, cleared, beganBy, begun, byteSent, sendOn, clocked, ackAddress, countedOne, ackSending, receiveOn, received, noted, failed, failedBy, nacked, lateBy, faulted, turned, turnStore, beaten, triggered, Counting, Meets};
+ghost use Rattle.channel.specs.Wires.{byteAt, movedTo, onward, finished, startedBy, started, beganBy, begun, sendOn, ackAddress, ackSending, receiveOn, received, failedBy, nacked, turned, turnStore, beaten, triggered, cleared, haltOf, lengthOf, Counting, Meets};
 use crate::state::Channel;
+use crate::state::Head;
+use crate::state::Headed;
 use crate::state::Stepped;
 use rules::Phase;
 use sequence::Action;
@@ -22,33 +26,33 @@ use sequence::Next;
 use sequence::Tail;
 use sequence::Turn;
 
-impl Channel {
+// One byte more of transaction n.
+fn count_one(counts: &mut [u8; 64], n: usize)
+    requires { ⌜ (n < 64) × (getD (now counts) n 0 < 255) ⌝ }
+    ensures { λ _. ⌜ now (counts .exit) ≡ set (now (counts .entry)) n (getD (now (counts .entry)) n 0 + 1) ⌝ }
+{
+    let k = counts[n];
+    counts[n] = k + 1;
+}
+
+impl Head {
     // ---- small changes
 
-    fn to_phase(self, phase: Phase) -> Channel
-        ensures { λ r. ⌜ r ≡ phaseSet self phase ⌝ }
+    fn to_phase(self, phase: Phase) -> Head
+        ensures { λ r. ⌜ r ≡ inPhase self phase ⌝ }
     {
         let w = self.walk;
         self.with_walk(sequence::to_phase(w, phase))
     }
 
-    fn to_idle(self) -> Channel
-        ensures { λ r. ⌜ r ≡ idled self ⌝ }
+    fn to_idle(self) -> Head
+        ensures { λ r. ⌜ r ≡ headWalk self idle ⌝ }
     {
         self.with_walk(sequence::idle_walk())
     }
 
-    fn resolve(self, n: usize, status: u8) -> Channel
-        requires { ⌜ n < 64 ⌝ }
-        ensures { λ r. ⌜ r ≡ resolved self n status ⌝ }
-    {
-        let mut c = self;
-        c.status[n] = status;
-        c
-    }
-
     fn halts(self) -> bool
-        ensures { λ r. ⌜ r ≡ haltOf self ⌝ }
+        ensures { λ r. ⌜ r ≡ haltedOf (self .walk .fe) (self .walk .sto) ⌝ }
     {
         let w = self.walk;
         sequence::halted(w.fe, w.sto)
@@ -56,281 +60,387 @@ impl Channel {
 
     // ---- the frame's end
 
-    pub(crate) fn end_by(self, e: Ending) -> Channel
-        ensures { λ r. ⌜ r ≡ endedBy self e ⌝ }
+    pub(crate) fn end_by(self, framecnt: u8, e: Ending) -> Head
+        ensures { λ r. ⌜ r ≡ endedSo self framecnt e ⌝ }
     {
-        let f = sequence::end_flags(self.flags, self.regs.te, self.settings[0], e);
+        let f = sequence::end_flags(self.flags, self.regs.te, framecnt, e);
         self.with_flags(f).with_walk(sequence::end_walk(e))
     }
 
-    fn end_frame(self) -> Channel
-        ensures { λ r. ⌜ r ≡ frameEnded self ⌝ }
+    fn end_frame(self, framecnt: u8) -> Head
+        ensures { λ r. ⌜ r ≡ endedSo self framecnt (endingOf (self .walk .fe) (self .walk .error) (self .walk .sto) (self .walk .seq) (restOf (self .regs .te) framecnt (self .walk .ended))) ⌝ }
     {
         let w = self.walk;
-        let rest = sequence::rest(self.regs.te, self.settings[0], w.ended);
+        let rest = sequence::rest(self.regs.te, framecnt, w.ended);
         let e = sequence::ends(w.fe, w.error, w.sto, w.seq, rest);
-        self.end_by(e)
+        self.end_by(framecnt, e)
     }
 
     // ---- the walk
 
-    fn pass(self, from: usize, to: usize) -> Channel
-        requires { ⌜ (from ≤ to) × (to ≤ 64) ⌝ }
-        ensures { λ r. ⌜ r ≡ passed self from to ⌝ }
-    {
-        let mut c = self;
-        rules::mark(&mut c.status, from, to);
-        c
-    }
-
-    fn stop(self, a: Action) -> Stepped
-        ensures { λ r. ⌜ r ≡ stopped self a ⌝ }
+    fn stop(self, a: Action) -> Headed
+        ensures { λ r. ⌜ r ≡ told (inPhase self Phase.Stopping) 0 0 a ⌝ }
     {
         self.to_phase(Phase::Stopping).act(a)
     }
 
-    fn send(self, n: usize, a: Action) -> Stepped
+    fn send(self, status: &mut [u8; 64], n: usize, a: Action) -> Headed
         requires { ⌜ n < 64 ⌝ }
-        ensures { λ r. ⌜ r ≡ sentTo self n a ⌝ }
+        ensures { λ r. ⌜ (r ≡ told (inPhase self (Phase.Address n)) 0 0 a) × (now (status .exit) ≡ set (now (status .entry)) n 0x01) ⌝ }
     {
-        self.resolve(n, 0x01).to_phase(Phase::Address(n)).act(a)
+        status[n] = 0x01;
+        self.to_phase(Phase::Address(n as u8)).act(a)
+    }
+
+    fn send_again<'a>(
+        self,
+        sla: &'a [u8; 64],
+        status: &'a mut [u8; 64],
+        t: Tail,
+        n: usize,
+    ) -> Headed
+        requires { ⌜ n < 64 ⌝ }
+        ensures { λ r. ⌜ (r ≡ told (inPhase self (Phase.Address n)) 0 0 (againBy t (getD (now (sla .entry)) n 0))) × (now (status .exit) ≡ set (now (status .entry)) n 0x01) ⌝ }
+    {
+        let a = sequence::again_by(t, sla[n]);
+        self.send(status, n, a)
     }
 
     // Either a stop or the transaction to send.
-    fn move_to(self, t: Tail, m: Move) -> Stepped
+    fn move_to<'a>(self, sla: &'a [u8; 64], status: &'a mut [u8; 64], t: Tail, m: Move) -> Headed
         requires { ⌜ Exists m ⌝ }
-        ensures { λ r. ⌜ r ≡ movedTo self t m ⌝ }
+        ensures { λ r. ⌜ Sends (λ c. movedTo c t m) self (now (sla .entry)) (now (status .entry)) r (now (status .exit)) ⌝ }
     {
         let Move::Send(n) = m else {
             return self.stop(sequence::stop_by(t));
         };
-        self.send_again(t, n)
+        self.send_again(sla, status, t, n)
     }
 
-    fn send_again(self, t: Tail, n: usize) -> Stepped
-        requires { ⌜ n < 64 ⌝ }
-        ensures { λ r. ⌜ r ≡ movedTo self t (Move.Send n) ⌝ }
-    {
-        let a = sequence::again_by(t, self.slatable[n]);
-        self.send(n, a)
-    }
-
-    fn onward(self, n: usize, t: Tail) -> Stepped
-        requires { ⌜ Running (self .tranconfig) n ⌝ }
-        ensures { λ r. ⌜ r ≡ onward self n t ⌝ }
+    fn onward<'a>(
+        self,
+        sla: &'a [u8; 64],
+        lens: &'a [u8; 65],
+        status: &'a mut [u8; 64],
+        n: usize,
+        t: Tail,
+    ) -> Headed
+        requires { ⌜ Running (now lens) n ⌝ }
+        ensures { λ r. ⌜ Walks (λ c. onward c n t) self (now (sla .entry)) (now (lens .entry)) (now (status .entry)) r (now (status .exit)) ⌝ }
     {
         let halt = self.halts();
-        let to = sequence::reach(halt, n, &self.slatable, &self.tranconfig);
-        let count = self.tranconfig[0];
-        let m = sequence::next_move(halt, to, count as usize);
-        self.pass(n + 1, to).move_to(t, m)
+        let to = sequence::reach(halt, n, sla, lens);
+        let count = rules::byte(lens[0]);
+        let m = sequence::next_move(halt, to, count);
+        rules::mark(status, n + 1, to);
+        self.move_to(sla, status, t, m)
     }
 
-    fn finish(self, n: usize, t: Tail) -> Stepped
-        requires { ⌜ Running (self .tranconfig) n ⌝ }
-        ensures { λ r. ⌜ r ≡ finished self n t ⌝ }
+    fn finish<'a>(
+        self,
+        sla: &'a [u8; 64],
+        lens: &'a [u8; 65],
+        status: &'a mut [u8; 64],
+        n: usize,
+        t: Tail,
+    ) -> Headed
+        requires { ⌜ Running (now lens) n ⌝ }
+        ensures { λ r. ⌜ Walks (λ c. finished c n t) self (now (sla .entry)) (now (lens .entry)) (now (status .entry)) r (now (status .exit)) ⌝ }
     {
-        self.resolve(n, 0x02).onward(n, t)
+        status[n] = 0x02;
+        self.onward(sla, lens, status, n, t)
     }
 
     // ---- a frame begins
 
-    fn start_by(self, m: Move) -> Stepped
+    fn start_by<'a>(
+        self,
+        sla: &'a [u8; 64],
+        status: &'a mut [u8; 64],
+        settings: &'a [u8; 6],
+        m: Move,
+    ) -> Headed
         requires { ⌜ Exists m ⌝ }
-        ensures { λ r. ⌜ r ≡ startedBy self m ⌝ }
+        ensures { λ r. ⌜ Begins (λ c. startedBy c m) self (now (sla .entry)) (now (status .entry)) (now (settings .entry)) r (now (status .exit)) ⌝ }
     {
         let Move::Send(n) = m else {
-            return self.end_frame().refuse(0);
+            return self.end_frame(settings[0]).refuse(0);
         };
-        let sla = self.slatable[n];
-        self.send(n, Action::S(sla))
+        self.send(status, n, Action::S(sla[n]))
     }
 
-    fn start(self) -> Stepped
-        requires { ⌜ countOf self ≤ 64 ⌝ }
-        ensures { λ r. ⌜ r ≡ started self ⌝ }
+    fn start<'a>(
+        self,
+        sla: &'a [u8; 64],
+        lens: &'a [u8; 65],
+        status: &'a mut [u8; 64],
+        settings: &'a [u8; 6],
+    ) -> Headed
+        requires { ⌜ getD (now lens) 0 0 ≤ 64 ⌝ }
+        ensures { λ r. ⌜ Starts started self (now (sla .entry)) (now (lens .entry)) (now (status .entry)) (now (settings .entry)) r (now (status .exit)) ⌝ }
     {
-        let first = self.tranconfig[0];
-        let count = first as usize;
-        let to = rules::first_sent(&self.slatable, &self.tranconfig, 0, count);
+        let count = rules::byte(lens[0]);
+        let to = rules::first_sent(sla, lens, 0, count);
         let m = sequence::next_move(false, to, count);
-        self.pass(0, to).start_by(m)
+        rules::mark(status, 0, to);
+        self.start_by(sla, status, settings, m)
     }
 
-    fn clear(self) -> Channel
-        ensures { λ r. ⌜ r ≡ cleared self ⌝ }
+    // All STATUS and BYTECOUNT become 0, and the frame starts.
+    fn start_clear<'a>(
+        self,
+        sla: &'a [u8; 64],
+        lens: &'a [u8; 65],
+        status: &'a mut [u8; 64],
+        counts: &'a mut [u8; 64],
+        settings: &'a [u8; 6],
+    ) -> Headed
+        requires { ⌜ getD (now lens) 0 0 ≤ 64 ⌝ }
+        ensures { λ r. ⌜ Turns (λ c. started (cleared c)) self (now (sla .entry)) (now (lens .entry)) (now (status .entry)) (now (counts .entry)) (now (settings .entry)) r (now (status .exit)) (now (counts .exit)) ⌝ }
     {
-        let mut c = self;
-        c.status = [0; 64];
-        c.bytecount = [0; 64];
-        c
+        *status = [0; 64];
+        *counts = [0; 64];
+        self.start(sla, lens, status, settings)
     }
 
-    fn begin_by(self, b: Beginning) -> Stepped
-        requires { ⌜ countOf self ≤ 64 ⌝ }
-        ensures { λ r. ⌜ r ≡ beganBy self b ⌝ }
+    fn begin_by<'a>(
+        self,
+        sla: &'a [u8; 64],
+        lens: &'a [u8; 65],
+        status: &'a mut [u8; 64],
+        counts: &'a mut [u8; 64],
+        settings: &'a [u8; 6],
+        b: Beginning,
+    ) -> Headed
+        requires { ⌜ getD (now lens) 0 0 ≤ 64 ⌝ }
+        ensures { λ r. ⌜ Turns (λ c. beganBy c b) self (now (sla .entry)) (now (lens .entry)) (now (status .entry)) (now (counts .entry)) (now (settings .entry)) r (now (status .exit)) (now (counts .exit)) ⌝ }
     {
         match b {
             Beginning::Empty => self.to_idle().refuse(0),
             Beginning::Unfit => self.to_idle().refuse(5),
-            Beginning::Fit => self.clear().start(),
+            Beginning::Fit => self.start_clear(sla, lens, status, counts, settings),
         }
     }
 
-    pub(crate) fn begin(self) -> Stepped
-        requires { ⌜ countOf self ≤ 64 ⌝ }
-        ensures { λ r. ⌜ r ≡ begun self ⌝ }
+    pub(crate) fn begin<'a>(
+        self,
+        sla: &'a [u8; 64],
+        lens: &'a [u8; 65],
+        status: &'a mut [u8; 64],
+        counts: &'a mut [u8; 64],
+        settings: &'a [u8; 6],
+    ) -> Headed
+        requires { ⌜ getD (now lens) 0 0 ≤ 64 ⌝ }
+        ensures { λ r. ⌜ Turns begun self (now (sla .entry)) (now (lens .entry)) (now (status .entry)) (now (counts .entry)) (now (settings .entry)) r (now (status .exit)) (now (counts .exit)) ⌝ }
     {
-        let first = self.tranconfig[0];
-        let count = first as usize;
-        let fit = rules::fits(&self.tranconfig, count);
+        let count = rules::byte(lens[0]);
+        let fit = rules::fits(lens, count);
         let b = sequence::begins(count, fit);
-        self.begin_by(b)
+        self.begin_by(sla, lens, status, counts, settings, b)
     }
 
     // ---- ACK
 
-    fn send_byte(self, mem: &[u8], n: usize, k: usize) -> Stepped
-        requires { ⌜ (n < 64) × (startOf (self .tranconfig) n + k < length (now mem)) ⌝ }
-        ensures { λ r. ⌜ r ≡ byteSent self (now (mem .entry)) n k ⌝ }
+    fn send_byte<'a>(self, lens: &'a [u8; 65], mem: &'a [u8], n: usize, k: usize) -> Headed
+        requires { ⌜ (n < 64) × (startOf (now lens) n + k < length (now mem)) ⌝ }
+        ensures { λ r. ⌜ r ≡ told (inPhase self (Phase.Sending n)) 0 0 (Action.D (getD (now (mem .entry)) (startOf (now (lens .entry)) n + k) 0)) ⌝ }
     {
-        let i = rules::start_of(&self.tranconfig, n) + k;
+        let i = rules::start_of(lens, n) + k;
         let b = mem[i];
-        self.to_phase(Phase::Sending(n)).act(Action::D(b))
+        self.to_phase(Phase::Sending(n as u8)).act(Action::D(b))
     }
 
-    fn send_on(self, mem: &[u8], n: usize, k: usize, x: Next) -> Stepped
-        requires { ⌜ Running (self .tranconfig) n × Ready x k (lengthOf self n) × (length (now mem) ≡ 4352) ⌝ }
-        ensures { λ r. ⌜ r ≡ sendOn self (now (mem .entry)) n k x ⌝ }
+    fn send_on<'a>(
+        self,
+        sla: &'a [u8; 64],
+        lens: &'a [u8; 65],
+        status: &'a mut [u8; 64],
+        mem: &'a [u8],
+        n: usize,
+        k: usize,
+        x: Next,
+    ) -> Headed
+        requires { ⌜ Running (now lens) n × Ready x k (getD (now lens) (n + 1) 0) × (length (now mem) ≡ 4352) ⌝ }
+        ensures { λ r. ⌜ Walks (λ c. sendOn c (now (mem .entry)) n k x) self (now (sla .entry)) (now (lens .entry)) (now (status .entry)) r (now (status .exit)) ⌝ }
     {
         match x {
             Next::Cut => self.stop(Action::P),
-            Next::More => self.send_byte(mem, n, k),
-            Next::Over => self.finish(n, Tail::Plain),
+            Next::More => self.send_byte(lens, mem, n, k),
+            Next::Over => self.finish(sla, lens, status, n, Tail::Plain),
         }
     }
 
-    fn clock(self, n: usize) -> Stepped
-        ensures { λ r. ⌜ r ≡ clocked self n ⌝ }
+    fn clock(self, n: usize) -> Headed
+        requires { ⌜ n < 64 ⌝ }
+        ensures { λ r. ⌜ r ≡ told (inPhase self (Phase.Receiving n)) 0 0 Action.C ⌝ }
     {
-        self.to_phase(Phase::Receiving(n)).act(Action::C)
+        self.to_phase(Phase::Receiving(n as u8)).act(Action::C)
     }
 
-    fn ack_write(self, mem: &[u8], n: usize) -> Stepped
-        requires { ⌜ Running (self .tranconfig) n × (length (now mem) ≡ 4352) ⌝ }
-        ensures { λ r. ⌜ r ≡ sendOn self (now (mem .entry)) n 0 (nextOf (haltOf self) 0 (lengthOf self n)) ⌝ }
+    fn ack_write<'a>(
+        self,
+        sla: &'a [u8; 64],
+        lens: &'a [u8; 65],
+        status: &'a mut [u8; 64],
+        mem: &'a [u8],
+        n: usize,
+    ) -> Headed
+        requires { ⌜ Running (now lens) n × (length (now mem) ≡ 4352) ⌝ }
+        ensures { λ r. ⌜ Walks (λ c. sendOn c (now (mem .entry)) n 0 (nextOf (haltOf c) 0 (lengthOf c n))) self (now (sla .entry)) (now (lens .entry)) (now (status .entry)) r (now (status .exit)) ⌝ }
     {
-        let len = rules::byte(self.tranconfig[n + 1]);
+        let len = rules::byte(lens[n + 1]);
         let x = sequence::next_byte(self.halts(), 0, len);
-        self.send_on(mem, n, 0, x)
+        self.send_on(sla, lens, status, mem, n, 0, x)
     }
 
-    fn ack_address(self, mem: &[u8], n: usize) -> Stepped
-        requires { ⌜ Running (self .tranconfig) n × (length (now mem) ≡ 4352) ⌝ }
-        ensures { λ r. ⌜ r ≡ ackAddress self (now (mem .entry)) n ⌝ }
+    fn ack_address<'a>(
+        self,
+        sla: &'a [u8; 64],
+        lens: &'a [u8; 65],
+        status: &'a mut [u8; 64],
+        mem: &'a [u8],
+        n: usize,
+    ) -> Headed
+        requires { ⌜ Running (now lens) n × (length (now mem) ≡ 4352) ⌝ }
+        ensures { λ r. ⌜ Walks (λ c. ackAddress c (now (mem .entry)) n) self (now (sla .entry)) (now (lens .entry)) (now (status .entry)) r (now (status .exit)) ⌝ }
     {
-        let sla = self.slatable[n];
-        if rules::reads(sla) {
+        if rules::reads(sla[n]) {
             self.clock(n)
         } else {
-            self.ack_write(mem, n)
+            self.ack_write(sla, lens, status, mem, n)
         }
     }
 
-    fn count_one(self, n: usize) -> Channel
-        requires { ⌜ (n < 64) × (bytesOf self n < 255) ⌝ }
-        ensures { λ r. ⌜ r ≡ countedOne self n ⌝ }
+    fn ack_sending<'a>(
+        self,
+        sla: &'a [u8; 64],
+        lens: &'a [u8; 65],
+        status: &'a mut [u8; 64],
+        counts: &'a mut [u8; 64],
+        mem: &'a [u8],
+        n: usize,
+    ) -> Headed
+        requires { ⌜ Counting (now lens) (now counts) n × (length (now mem) ≡ 4352) ⌝ }
+        ensures { λ r. ⌜ Counts (λ c. ackSending c (now (mem .entry)) n) self (now (sla .entry)) (now (lens .entry)) (now (status .entry)) (now (counts .entry)) r (now (status .exit)) (now (counts .exit)) ⌝ }
     {
-        let k = self.bytecount[n];
-        let mut c = self;
-        c.bytecount[n] = k + 1;
-        c
-    }
-
-    fn ack_sending(self, mem: &[u8], n: usize) -> Stepped
-        requires { ⌜ Counting self n × (length (now mem) ≡ 4352) ⌝ }
-        ensures { λ r. ⌜ r ≡ ackSending self (now (mem .entry)) n ⌝ }
-    {
-        let len = rules::byte(self.tranconfig[n + 1]);
-        let k = rules::byte(self.bytecount[n]) + 1;
+        let len = rules::byte(lens[n + 1]);
+        let k = rules::byte(counts[n]) + 1;
         let x = sequence::next_byte(self.halts(), k, len);
-        self.count_one(n).send_on(mem, n, k, x)
+        count_one(counts, n);
+        self.send_on(sla, lens, status, mem, n, k, x)
     }
 
     // ---- BYTE
 
-    fn receive_on(self, n: usize, x: Next) -> Stepped
-        requires { ⌜ Running (self .tranconfig) n ⌝ }
-        ensures { λ r. ⌜ r ≡ receiveOn self n x ⌝ }
+    fn receive_on<'a>(
+        self,
+        sla: &'a [u8; 64],
+        lens: &'a [u8; 65],
+        status: &'a mut [u8; 64],
+        n: usize,
+        x: Next,
+    ) -> Headed
+        requires { ⌜ Running (now lens) n ⌝ }
+        ensures { λ r. ⌜ Walks (λ c. receiveOn c n x) self (now (sla .entry)) (now (lens .entry)) (now (status .entry)) r (now (status .exit)) ⌝ }
     {
         match x {
             Next::Cut => self.stop(Action::Np),
             Next::More => self.act(Action::A),
-            Next::Over => self.finish(n, Tail::Nacked),
+            Next::Over => self.finish(sla, lens, status, n, Tail::Nacked),
         }
     }
 
-    fn take(self, n: usize) -> Stepped
-        requires { ⌜ Counting self n ⌝ }
-        ensures { λ r. ⌜ r ≡ received self n ⌝ }
+    fn take<'a>(
+        self,
+        sla: &'a [u8; 64],
+        lens: &'a [u8; 65],
+        status: &'a mut [u8; 64],
+        counts: &'a mut [u8; 64],
+        n: usize,
+    ) -> Headed
+        requires { ⌜ Counting (now lens) (now counts) n ⌝ }
+        ensures { λ r. ⌜ Counts (λ c. received c n) self (now (sla .entry)) (now (lens .entry)) (now (status .entry)) (now (counts .entry)) r (now (status .exit)) (now (counts .exit)) ⌝ }
     {
-        let len = rules::byte(self.tranconfig[n + 1]);
-        let k = rules::byte(self.bytecount[n]) + 1;
+        let len = rules::byte(lens[n + 1]);
+        let k = rules::byte(counts[n]) + 1;
         let x = sequence::next_byte(self.halts(), k, len);
-        self.count_one(n).receive_on(n, x)
+        count_one(counts, n);
+        self.receive_on(sla, lens, status, n, x)
     }
 
-    fn receive(self, mem: &mut [u8], n: usize, b: u8) -> Stepped
-        requires { ⌜ Counting self n × (length (now mem) ≡ 4352) ⌝ }
-        ensures { λ r. ⌜ (r ≡ received self n) × (now (mem .exit) ≡ set (now (mem .entry)) (byteAt self n) b) ⌝ }
+    fn receive<'a>(
+        self,
+        sla: &'a [u8; 64],
+        lens: &'a [u8; 65],
+        status: &'a mut [u8; 64],
+        counts: &'a mut [u8; 64],
+        mem: &'a mut [u8],
+        n: usize,
+        b: u8,
+    ) -> Headed
+        requires { ⌜ Counting (now lens) (now counts) n × (length (now mem) ≡ 4352) ⌝ }
+        ensures { λ r. ⌜ Counts (λ c. received c n) self (now (sla .entry)) (now (lens .entry)) (now (status .entry)) (now (counts .entry)) r (now (status .exit)) (now (counts .exit)) × (now (mem .exit) ≡ set (now (mem .entry)) (startOf (now (lens .entry)) n + getD (now (counts .entry)) n 0) b) ⌝ }
     {
-        let k = rules::byte(self.bytecount[n]);
-        let i = rules::start_of(&self.tranconfig, n) + k;
+        let i = rules::start_of(lens, n) + rules::byte(counts[n]);
         mem[i] = b;
-        self.take(n)
+        self.take(sla, lens, status, counts, n)
     }
 
     // ---- NACK
 
-    fn note(self, read: bool) -> Channel
-        ensures { λ r. ⌜ r ≡ noted self read ⌝ }
+    fn note(self, read: bool) -> Head
+        ensures { λ r. ⌜ r ≡ headFlags self (nackFlags (self .flags) read) ⌝ }
     {
         let f = sequence::nack_flags(self.flags, read);
         self.with_flags(f)
     }
 
-    fn fail(self) -> Stepped
-        ensures { λ r. ⌜ r ≡ failed self ⌝ }
+    fn fail(self) -> Headed
+        ensures { λ r. ⌜ r ≡ told (headWalk self (errorNoted (self .walk))) 0 0 Action.P ⌝ }
     {
         let w = self.walk;
         self.with_walk(sequence::note_error(w)).act(Action::P)
     }
 
-    fn fail_by(self, n: usize, masked: bool) -> Stepped
-        requires { ⌜ Running (self .tranconfig) n ⌝ }
-        ensures { λ r. ⌜ r ≡ failedBy self n masked ⌝ }
+    fn fail_by<'a>(
+        self,
+        sla: &'a [u8; 64],
+        lens: &'a [u8; 65],
+        status: &'a mut [u8; 64],
+        n: usize,
+        masked: bool,
+    ) -> Headed
+        requires { ⌜ Running (now lens) n ⌝ }
+        ensures { λ r. ⌜ Walks (λ c. failedBy c n masked) self (now (sla .entry)) (now (lens .entry)) (now (status .entry)) r (now (status .exit)) ⌝ }
     {
         if masked {
-            self.onward(n, Tail::Plain)
+            self.onward(sla, lens, status, n, Tail::Plain)
         } else {
             self.fail()
         }
     }
 
-    fn nack(self, n: usize, status: u8) -> Stepped
-        requires { ⌜ Running (self .tranconfig) n ⌝ }
-        ensures { λ r. ⌜ r ≡ nacked self n status ⌝ }
+    fn nack<'a>(
+        self,
+        sla: &'a [u8; 64],
+        lens: &'a [u8; 65],
+        status: &'a mut [u8; 64],
+        n: usize,
+        v: u8,
+    ) -> Headed
+        requires { ⌜ Running (now lens) n ⌝ }
+        ensures { λ r. ⌜ Walks (λ c. nacked c n v) self (now (sla .entry)) (now (lens .entry)) (now (status .entry)) r (now (status .exit)) ⌝ }
     {
-        let sla = self.slatable[n];
-        let read = rules::reads(sla);
+        let read = rules::reads(sla[n]);
         let masked = sequence::masked(self.regs.intmsk, read);
-        self.resolve(n, status).note(read).fail_by(n, masked)
+        status[n] = v;
+        self.note(read).fail_by(sla, lens, status, n, masked)
     }
 
     // ---- TICK and trigger that are late, and faults
 
-    fn be_late(self) -> Channel
-        ensures { λ r. ⌜ r ≡ lateBy self ⌝ }
+    fn be_late(self) -> Head
+        ensures { λ r. ⌜ r ≡ headWalk (headFlags self (lateFlags (self .flags) (bitOf (self .regs .intmsk) 0x01))) (lateWalk (self .walk) (bitOf (self .regs .intmsk) 0x01)) ⌝ }
     {
         let w = self.walk;
         let femsk = rules::bit(self.regs.intmsk, 0x01);
@@ -338,8 +448,8 @@ impl Channel {
         self.with_flags(f).with_walk(sequence::late_walk(w, femsk))
     }
 
-    fn fault(self, f: Fault) -> Channel
-        ensures { λ r. ⌜ r ≡ faulted self f ⌝ }
+    fn fault(self, f: Fault) -> Head
+        ensures { λ r. ⌜ r ≡ headWalk (headFlags self (faultFlags (self .flags) f)) idle ⌝ }
     {
         let g = sequence::fault_flags(self.flags, f);
         self.with_flags(g).to_idle()
@@ -347,43 +457,83 @@ impl Channel {
 
     // ---- an event, and a trigger edge
 
-    pub(crate) fn turn(self, mem: &mut [u8], t: Turn) -> Stepped
-        requires { ⌜ Meets self t × (length (now mem) ≡ 4352) ⌝ }
-        ensures { λ r. ⌜ (r ≡ turned self (now (mem .entry)) t) × (now (mem .exit) ≡ turnStore self (now (mem .entry)) t) ⌝ }
+    pub(crate) fn turn<'a>(
+        self,
+        sla: &'a [u8; 64],
+        lens: &'a [u8; 65],
+        status: &'a mut [u8; 64],
+        counts: &'a mut [u8; 64],
+        settings: &'a [u8; 6],
+        mem: &'a mut [u8],
+        t: Turn,
+    ) -> Headed
+        requires { ⌜ Meets (joined self (now sla) (now lens) (now status) (now counts) (now settings)) t × (length (now mem) ≡ 4352) ⌝ }
+        ensures { λ r. ⌜ Turns (λ c. turned c (now (mem .entry)) t) self (now (sla .entry)) (now (lens .entry)) (now (status .entry)) (now (counts .entry)) (now (settings .entry)) r (now (status .exit)) (now (counts .exit)) × (now (mem .exit) ≡ turnStore (joined self (now (sla .entry)) (now (lens .entry)) (now (status .entry)) (now (counts .entry)) (now (settings .entry))) (now (mem .entry)) t) ⌝ }
     {
         match t {
             Turn::Unawaited => self.refuse(7),
-            Turn::AckAddress(n) => self.ack_address(mem, n),
-            Turn::AckSending(n) => self.ack_sending(mem, n),
-            Turn::NackAddress(n) => self.nack(n, 0x04),
-            Turn::NackSending(n) => self.nack(n, 0x08),
-            Turn::Receive(n, b) => self.receive(mem, n, b),
-            Turn::Begin => self.begin(),
+            Turn::AckAddress(n) => self.ack_address(sla, lens, status, mem, n),
+            Turn::AckSending(n) => self.ack_sending(sla, lens, status, counts, mem, n),
+            Turn::NackAddress(n) => self.nack(sla, lens, status, n, 0x04),
+            Turn::NackSending(n) => self.nack(sla, lens, status, n, 0x08),
+            Turn::Receive(n, b) => self.receive(sla, lens, status, counts, mem, n, b),
+            Turn::Begin => self.begin(sla, lens, status, counts, settings),
             Turn::Late => self.be_late().refuse(0),
-            Turn::End => self.end_frame().refuse(0),
+            Turn::End => self.end_frame(settings[0]).refuse(0),
             Turn::Fault(f) => self.fault(f).refuse(0),
         }
     }
 
-    fn beat(self, b: Beat) -> Stepped
-        requires { ⌜ countOf self ≤ 64 ⌝ }
-        ensures { λ r. ⌜ r ≡ beaten self b ⌝ }
+    fn beat<'a>(
+        self,
+        sla: &'a [u8; 64],
+        lens: &'a [u8; 65],
+        status: &'a mut [u8; 64],
+        counts: &'a mut [u8; 64],
+        settings: &'a [u8; 6],
+        b: Beat,
+    ) -> Headed
+        requires { ⌜ getD (now lens) 0 0 ≤ 64 ⌝ }
+        ensures { λ r. ⌜ Turns (λ c. beaten c b) self (now (sla .entry)) (now (lens .entry)) (now (status .entry)) (now (counts .entry)) (now (settings .entry)) r (now (status .exit)) (now (counts .exit)) ⌝ }
     {
         match b {
             Beat::Quiet => self.refuse(0),
-            Beat::Begin => self.begin(),
+            Beat::Begin => self.begin(sla, lens, status, counts, settings),
             Beat::Late => self.be_late().refuse(0),
         }
     }
+}
 
+impl Channel {
     // A trigger edge's effect on this channel, for the whole part's step.
     pub fn trigger(self, edge: Edge) -> Stepped
         requires { ⌜ inRange self ≡ true ⌝ }
         ensures { λ r. ⌜ r ≡ triggered self edge ⌝ }
     {
-        let w = self.walk;
-        let p = w.phase;
-        let b = sequence::edge_beat(p, self.regs.te, self.regs.tp, edge);
-        self.beat(b)
+        let sla = self.slatable;
+        let lens = self.tranconfig;
+        let mut status = self.status;
+        let mut counts = self.bytecount;
+        let settings = self.settings;
+        let regs = self.regs;
+        let flags = self.flags;
+        let ptrs = self.ptrs;
+        let walk = self.walk;
+        let p = walk.phase;
+        let b = sequence::edge_beat(p, regs.te, regs.tp, edge);
+        let h = Head {
+            regs,
+            flags,
+            ptrs,
+            walk,
+            key: self.key,
+        };
+        let r = h.beat(&sla, &lens, &mut status, &mut counts, &settings, b);
+        let g = r.head;
+        let answer = r.answer;
+        Stepped {
+            channel: g.join(sla, lens, status, counts, settings),
+            answer,
+        }
     }
 }

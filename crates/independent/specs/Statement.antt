@@ -13,7 +13,7 @@ use Rattle.mixes.specs.Mix.{Mix, Machine, ends, log, only}
 use Rattle.channel.specs.declared.step.Op.{Op}
 use Rattle.part.specs.declared.map.Step.{Step}
 use Rattle.part.specs.declared.map.Target.{Target}
-use Rattle.part.specs.declared.map.Target.the-variants.{One, CtrlWrite, CtrlRead, AllTrigger, AllReset, Beyond}
+use Rattle.part.specs.declared.map.Target.the-variants.{One, All}
 use Rattle.part.specs.declared.state.Part.{Part}
 use Rattle.part.specs.declared.state.PartAnswer.{PartAnswer}
 use Rattle.part.specs.Map.{targetOf}
@@ -37,11 +37,7 @@ pub record OfChannel (c : ℕ) (a : Step) : Type 0 where
 -- the channel that a step is of, and 3 where it is one of the whole part
 abbrev pub ownerOf : Target → ℕ
 ownerOf (One c op) = c
-ownerOf (CtrlWrite reg v) = 3
-ownerOf (CtrlRead reg) = 3
-ownerOf (AllTrigger edge) = 3
-ownerOf AllReset = 3
-ownerOf Beyond = 3
+ownerOf (All t) = 3
 
 -- the part as a machine, by the rules that its step is proved to follow; an answer is a number, a value and an action for each channel
 abbrev pub thePart : Machine State Step PartAnswer

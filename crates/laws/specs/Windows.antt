@@ -5,7 +5,7 @@ use mathlib.Core.Path.{_≡_, refl, sym, _∙_, ap}
 use mathlib.Core.List.{List, [], _∷_, _++_, append-assoc}
 use native.Mathlib.Omega.{arith}
 use lib.ListN.{length, take, drop, set, length-take, length-drop}
-use lib.Seq.{sets, length-sets, sets-eq, set-comm, drop-set-lt, take-set-le, drop-set-add, take-at, drop-at, length-take-le}
+use lib.Seq.{sets, length-sets, sets-eq, set-comm, drop-set-lt, take-set-le, drop-set-add}
 
 abbrev pub cut : {A : Type 0} → ℕ → ℕ → List A → List A
 cut a w m = take w (drop a m)
@@ -66,12 +66,6 @@ module _ {A : Type 0} where
 
   pub length-put : (a w : ℕ) (l m : List A) → length l ≡ w → a + w ≤ length m → length (put a w l m) ≡ length m
   length-put a w l m e h = ap length (put-sets a w l m e h) ∙ length-sets m a l
-
-  -- what was put is there
-  pub cut-put : (a w : ℕ) (l m : List A) → length l ≡ w → a + w ≤ length m → cut a w (put a w l m) ≡ l
-  cut-put a w l m e h =
-      let h′ : a ≤ length m = omega arith in
-      ap (take w) (drop-at (take a m) (l ++ drop (a + w) m) a (length-take-le a m h′)) ∙ take-at l (drop (a + w) m) w e
 
   -- another window is as it was
   pub cut-put-other : (a b w : ℕ) (l m : List A) → length l ≡ w → a + w ≤ length m → Clear w a b → cut b w (put a w l m) ≡ cut b w m

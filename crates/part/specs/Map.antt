@@ -9,7 +9,8 @@ use Rattle.part.specs.declared.map.Step.the-variants.{Write, Read, Wire,
 use Rattle.part.specs.declared.map.Ctrl.{Ctrl}
 use Rattle.part.specs.declared.map.Ctrl.the-variants.{Ctrlstatus, Ctrlintmsk, Reserved, DeviceId, Ctrlpreset, Nothing, Ctrlrdy}
 use Rattle.part.specs.declared.map.Target.{Target}
-use Rattle.part.specs.declared.map.Target.the-variants.{One, CtrlWrite, CtrlRead, AllTrigger, AllReset, Beyond}
+use Rattle.part.specs.declared.map.Target.the-variants.{One, All}
+use Rattle.part.specs.declared.map.Common.the-variants.{CtrlWrite, CtrlRead, AllTrigger, AllReset, Beyond}
 
 -- 64c + n is channel c's, C0h, D0h and E0h + 0 to Fh are channel 0's, 1's and 2's; 3 stands for the whole part, F0h to FFh
 unfoldable pub channelAt : ℕ → ℕ
@@ -27,29 +28,25 @@ ctrlAt a =
 
 -- a write: of the channel whose address it is, or of the whole part
 unfoldable pub writeTarget : ℕ → ℕ → Target
-writeTarget a v = if ltb (channelAt a) 3 then One (channelAt a) (WriteOp a v) else CtrlWrite (ctrlAt a) v
+writeTarget a v = if ltb (channelAt a) 3 then One (channelAt a) (WriteOp a v) else All (CtrlWrite (ctrlAt a) v)
 
 -- a read, in the same way
 unfoldable pub readTarget : ℕ → Target
-readTarget a = if ltb (channelAt a) 3 then One (channelAt a) (ReadOp a) else CtrlRead (ctrlAt a)
+readTarget a = if ltb (channelAt a) 3 then One (channelAt a) (ReadOp a) else All (CtrlRead (ctrlAt a))
 
 -- an event of a channel above 2 concerns none
 unfoldable pub wireTarget : ℕ → Event → Target
-wireTarget c e = if ltb c 3 then One c (WireOp e) else Beyond
+wireTarget c e = if ltb c 3 then One c (WireOp e) else All Beyond
 
 -- whole-part steps: trigger, hardware reset, addresses F0h to FFh, events for a channel above 2; all others are channel steps
 unfoldable pub targetOf : Step → Target
 targetOf (Write a v) = writeTarget a v
 targetOf (Read a) = readTarget a
 targetOf (Wire c e) = wireTarget c e
-targetOf (Trigger edge) = AllTrigger edge
-targetOf Reset = AllReset
+targetOf (Trigger edge) = All (AllTrigger edge)
+targetOf Reset = All AllReset
 
 -- a channel that a step concerns is 0, 1 or 2
 abbrev pub InPart : Target → Type 0
 InPart (One c op) = c < 3
-InPart (CtrlWrite reg v) = Unit {0}
-InPart (CtrlRead reg) = Unit {0}
-InPart (AllTrigger edge) = Unit {0}
-InPart AllReset = Unit {0}
-InPart Beyond = Unit {0}
+InPart (All t) = Unit {0}

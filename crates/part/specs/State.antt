@@ -3,6 +3,7 @@ use Prim.Native.Nat.{ℕ, _*_}
 use mathlib.Core.Bool.{Bool, false}
 use mathlib.Core.List.{List, [], _∷_}
 use lib.ListN.{getD, set, replicate}
+use Rattle.laws.specs.Pick.{if_then_else_}
 use Rattle.laws.specs.Windows.{cut, put}
 use Rattle.rules.specs.declared.state.Phase.the-variants.{Idle}
 use Rattle.sequence.specs.declared.wires.Action.{Action}
@@ -30,6 +31,10 @@ told p n v acts = record { part = p; answer = record { number = n; value = v; ac
 
 abbrev pub quiet : List Act
 quiet = record { action = Nothing } ∷ record { action = Nothing } ∷ record { action = Nothing } ∷ []
+
+-- an action where a test holds
+unfoldable pub actIf : Bool → Action → Act
+actIf mine a = if mine then record { action = a } else record { action = Nothing }
 
 -- an action of channel c alone
 abbrev pub onlyAt : ℕ → Action → List Act

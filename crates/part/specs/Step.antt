@@ -7,6 +7,7 @@ use lib.Dec.{eqb}
 use lib.ListN.{length, set}
 use Rattle.laws.specs.Pick.{if_then_else_}
 use Rattle.sequence.specs.declared.wires.Edge.{Edge}
+use Rattle.channel.specs.declared.state.Answer.{Answer}
 use Rattle.channel.specs.declared.state.Channel.{Channel}
 use Rattle.channel.specs.declared.state.Stepped.{Stepped}
 use Rattle.channel.specs.declared.step.Op.{Op}
@@ -17,9 +18,12 @@ use Rattle.channel.specs.Wires.{triggered}
 use Rattle.part.specs.declared.state.Act.{Act}
 use Rattle.part.specs.declared.state.Part.{Part}
 use Rattle.part.specs.declared.state.PartStepped.{PartStepped}
+use Rattle.part.specs.declared.state.Told.{Told}
 use Rattle.part.specs.declared.map.Step.{Step}
 use Rattle.part.specs.declared.map.Target.{Target}
-use Rattle.part.specs.declared.map.Target.the-variants.{One, CtrlWrite, CtrlRead, AllTrigger, AllReset, Beyond}
+use Rattle.part.specs.declared.map.Common.{Common}
+use Rattle.part.specs.declared.map.Target.the-variants.{One, All}
+use Rattle.part.specs.declared.map.Common.the-variants.{CtrlWrite, CtrlRead, AllTrigger, AllReset, Beyond}
 use Rattle.part.specs.State.{freshPart, wiped, told, refusedPart, onlyAt, chan, window, putWindow}
 use Rattle.part.specs.Map.{targetOf}
 use Rattle.part.specs.Registers.{ctrlRead, ctrlPut, ctrlStore}
@@ -36,18 +40,23 @@ keyKept (Write a v) key = false
 keyKept (Read a) key = key
 keyKept (Wire e) key = key
 
--- the part after channel c answered r
-abbrev pub oneAfter : Part → ℕ → Op → Stepped → Part
-oneAfter p c op r = record {
-  channels = set (p .channels) c (r .channel);
-  be = beAfter (p .be) (r .answer .number);
-  mask = p .mask;
-  key = keyKept op (p .key);
+-- what channel c's answer a is to the part: BE, the key, and its number, its value and its action
+abbrev pub toldBy : Bool → Bool → ℕ → Op → Answer → Told
+toldBy be key c op a = record {
+  be = beAfter be (a .number);
+  key = keyKept op key;
+  answer = record { number = a .number; value = a .value; actions = onlyAt c (a .action) };
 }
 
--- with its number, its value and its action
+-- the part with a record of channel c, and with what is told of it
+abbrev pub oneAfter : Part → ℕ → Channel → Told → Part
+oneAfter p c r t = record { channels = set (p .channels) c r; be = t .be; mask = p .mask; key = t .key }
+
+-- the part after channel c answered r
 abbrev pub oneTold : Part → ℕ → Op → Stepped → PartStepped
-oneTold p c op r = told (oneAfter p c op r) (r .answer .number) (r .answer .value) (onlyAt c (r .answer .action))
+oneTold p c op r =
+    let t = toldBy (p .be) (p .key) c op (r .answer) in
+    record { part = oneAfter p c (r .channel) t; answer = t .answer }
 
 -- each channel works on its own 4,352 bytes
 unfoldable pub oneStep : Part → List ℕ → ℕ → Op → PartStepped
@@ -79,23 +88,30 @@ triggerStep p edge =
     })
     0 0 (map (edgeAct edge) (p .channels))
 
--- ---- whom the step concerns; no. 1 for a channel above 2; the hardware reset does what CTRLPRESET does
-unfoldable pub partServed : Part → List ℕ → Target → PartStepped
-partServed p m (One c op) = oneStep p m c op
-partServed p m (CtrlWrite reg v) = ctrlPut p reg v
-partServed p m (CtrlRead reg) = ctrlRead p reg
-partServed p m (AllTrigger edge) = triggerStep p edge
-partServed p m AllReset = refusedPart freshPart 0
-partServed p m Beyond = refusedPart p 1
+-- ---- a step of the whole part; no. 1 for a channel above 2; the hardware reset does what CTRLPRESET does
+unfoldable pub allServed : Part → Common → PartStepped
+allServed p (CtrlWrite reg v) = ctrlPut p reg v
+allServed p (CtrlRead reg) = ctrlRead p reg
+allServed p (AllTrigger edge) = triggerStep p edge
+allServed p AllReset = refusedPart freshPart 0
+allServed p Beyond = refusedPart p 1
 
 -- and the bytes
+unfoldable pub allStored : Part → List ℕ → Common → List ℕ
+allStored p m (CtrlWrite reg v) = ctrlStore p m reg v
+allStored p m (CtrlRead reg) = m
+allStored p m (AllTrigger edge) = m
+allStored p m AllReset = wiped
+allStored p m Beyond = m
+
+-- ---- whom the step concerns
+unfoldable pub partServed : Part → List ℕ → Target → PartStepped
+partServed p m (One c op) = oneStep p m c op
+partServed p m (All t) = allServed p t
+
 unfoldable pub partStored : Part → List ℕ → Target → List ℕ
 partStored p m (One c op) = oneBytes p m c op
-partStored p m (CtrlWrite reg v) = ctrlStore p m reg v
-partStored p m (CtrlRead reg) = m
-partStored p m (AllTrigger edge) = m
-partStored p m AllReset = wiped
-partStored p m Beyond = m
+partStored p m (All t) = allStored p m t
 
 -- ---- no. 9: lent memory not 13,056 bytes, or a state out of range
 

@@ -4,8 +4,13 @@ mod registers;
 mod state;
 mod step;
 
+pub use map::Common;
 pub use map::Step;
+pub use map::Target;
+pub use map::target_of;
 pub use state::Act;
 pub use state::Part;
 pub use state::PartAnswer;
 pub use state::PartStepped;
+pub use state::Told;
+pub use step::tell_one;

@@ -25,14 +25,19 @@ pub enum Ctrl {
     Ctrlrdy,
 }
 
-// Whom a step concerns: one channel, the whole part, or nobody (an event of a channel above 2).
-pub enum Target {
-    One(u8, Op),
+// A step of the whole part: a write or a read of its registers, a trigger edge, the hardware reset, or nobody's (an event of a channel above 2).
+pub enum Common {
     CtrlWrite(Ctrl, u8),
     CtrlRead(Ctrl),
     AllTrigger(Edge),
     AllReset,
     Beyond,
+}
+
+// Whom a step concerns: one channel, or all.
+pub enum Target {
+    One(u8, Op),
+    All(Common),
 }
 
 fn channel_at(a: u8) -> u8
@@ -68,7 +73,7 @@ fn write_target(a: u8, v: u8) -> Target
     if c < 3 {
         Target::One(c, Op::Write(a, v))
     } else {
-        Target::CtrlWrite(ctrl_at(a), v)
+        Target::All(Common::CtrlWrite(ctrl_at(a), v))
     }
 }
 
@@ -79,7 +84,7 @@ fn read_target(a: u8) -> Target
     if c < 3 {
         Target::One(c, Op::Read(a))
     } else {
-        Target::CtrlRead(ctrl_at(a))
+        Target::All(Common::CtrlRead(ctrl_at(a)))
     }
 }
 
@@ -89,18 +94,19 @@ fn wire_target(c: u8, e: Event) -> Target
     if c < 3 {
         Target::One(c, Op::Wire(e))
     } else {
-        Target::Beyond
+        Target::All(Common::Beyond)
     }
 }
 
-pub(crate) fn target_of(s: Step) -> Target
+// Whom a step concerns, for a caller that serves the channels itself.
+pub fn target_of(s: Step) -> Target
     ensures { λ r. ⌜ (r ≡ targetOf s) × InPart r ⌝ }
 {
     match s {
         Step::Write(a, v) => write_target(a, v),
         Step::Read(a) => read_target(a),
         Step::Wire(c, e) => wire_target(c, e),
-        Step::Trigger(edge) => Target::AllTrigger(edge),
-        Step::Reset => Target::AllReset,
+        Step::Trigger(edge) => Target::All(Common::AllTrigger(edge)),
+        Step::Reset => Target::All(Common::AllReset),
     }
 }

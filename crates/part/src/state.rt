@@ -1,7 +1,7 @@
 // The record of the part, and what a step answers.
 ghost use mathlib.Core.Path.{_≡_};
 ghost use Prim.Native.Nat.{_<_};
-ghost use Rattle.part.specs.State.{freshPart, told, refusedPart, repliedPart, quiet, onlyAt, withBe, withMask, withKey};
+ghost use Rattle.part.specs.State.{freshPart, told, refusedPart, repliedPart, quiet, actIf, onlyAt, withBe, withMask, withKey};
 use channel::Channel;
 use sequence::Action;
 
@@ -25,6 +25,13 @@ pub struct PartAnswer {
     pub actions: [Act; 3],
 }
 
+// What a channel's step is to the part, beside its record and its bytes: BE and the key of CTRLPRESET after it, and the answer.
+pub struct Told {
+    pub be: bool,
+    pub key: bool,
+    pub answer: PartAnswer,
+}
+
 // What a step gives back: the part, and its answer.
 pub struct PartStepped {
     pub part: Part,
@@ -41,15 +48,28 @@ pub(crate) fn no_acts() -> [Act; 3]
     [a, a, a]
 }
 
+// The action, if it is this channel's.
+fn act_if(mine: bool, action: Action) -> Act
+    ensures { λ r. ⌜ r ≡ actIf mine action ⌝ }
+{
+    if mine {
+        Act { action }
+    } else {
+        Act {
+            action: Action::Nothing,
+        }
+    }
+}
+
 // An action of channel c alone.
-pub(crate) fn act_at(c: usize, action: Action) -> [Act; 3]
+pub(crate) fn act_at(c: u8, action: Action) -> [Act; 3]
     requires { ⌜ c < 3 ⌝ }
     ensures { λ r. ⌜ r ≡ onlyAt c action ⌝ }
 {
-    let mut acts = no_acts();
-    let a = Act { action };
-    acts[c] = a;
-    acts
+    let first = act_if(c == 0, action);
+    let second = act_if(c == 1, action);
+    let third = act_if(c == 2, action);
+    [first, second, third]
 }
 
 impl Part {

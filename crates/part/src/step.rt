@@ -3,7 +3,8 @@ ghost use mathlib.Core.Bool.{true};
 ghost use mathlib.Core.Path.{_≡_};
 ghost use Prim.Native.Nat.{_<_};
 ghost use Rattle.part.specs.Map.{InPart};
-ghost use Rattle.part.specs.Step.{beAfter, keyKept, oneStep, oneBytes, triggerStep, partServed, partStored, maskIn, channelsIn, partIn, accepts, partStep, partBytes, Whole};
+ghost use Rattle.part.specs.Step.{beAfter, keyKept, toldBy, oneStep, oneBytes, triggerStep, allServed, allStored, partServed, partStored, maskIn, channelsIn, partIn, accepts, partStep, partBytes, Whole};
+use crate::map::Common;
 use crate::map::Step;
 use crate::map::Target;
 use crate::map::target_of;
@@ -12,8 +13,10 @@ use crate::state::Act;
 use crate::state::Part;
 use crate::state::PartAnswer;
 use crate::state::PartStepped;
+use crate::state::Told;
 use crate::state::act_at;
 use crate::state::no_acts;
+use channel::Answer;
 use channel::Op;
 use sequence::Edge;
 
@@ -30,6 +33,24 @@ fn key_kept(op: Op, key: bool) -> bool
         Op::Write(_, _) => false,
         Op::Read(_) => key,
         Op::Wire(_) => key,
+    }
+}
+
+// What an answer of channel c is to the part.
+pub fn tell_one(be: bool, key: bool, c: u8, op: Op, a: Answer) -> Told
+    requires { ⌜ c < 3 ⌝ }
+    ensures { λ r. ⌜ r ≡ toldBy be key c op a ⌝ }
+{
+    let action = a.action;
+    let actions = act_at(c, action);
+    Told {
+        be: be_after(be, a.number),
+        key: key_kept(op, key),
+        answer: PartAnswer {
+            number: a.number,
+            value: a.value,
+            actions,
+        },
     }
 }
 
@@ -54,20 +75,16 @@ impl Part {
         let t = r.channel;
         channels[i] = t;
         let a = r.answer;
-        let action = a.action;
-        let actions = act_at(i, action);
+        let told = tell_one(self.be, self.key, c, op, a);
+        let answer = told.answer;
         PartStepped {
             part: Part {
                 channels,
-                be: be_after(self.be, a.number),
+                be: told.be,
                 mask: self.mask,
-                key: key_kept(op, self.key),
+                key: told.key,
             },
-            answer: PartAnswer {
-                number: a.number,
-                value: a.value,
-                actions,
-            },
+            answer,
         }
     }
 
@@ -107,17 +124,27 @@ impl Part {
         }
     }
 
+    // A step of the whole part.
+    pub fn serve_all(self, mem: &mut [u8], t: Common) -> PartStepped
+        requires { ⌜ Whole self (now mem) ⌝ }
+        ensures { λ r. ⌜ (r ≡ allServed self t) × (now (mem .exit) ≡ allStored self (now (mem .entry)) t) ⌝ }
+    {
+        match t {
+            Common::CtrlWrite(reg, v) => self.put_ctrl(mem, reg, v),
+            Common::CtrlRead(reg) => self.read_ctrl(reg),
+            Common::AllTrigger(edge) => self.trigger(edge),
+            Common::AllReset => reset(mem),
+            Common::Beyond => self.refuse(1),
+        }
+    }
+
     fn serve(self, mem: &mut [u8], t: Target) -> PartStepped
         requires { ⌜ Whole self (now mem) × InPart t ⌝ }
         ensures { λ r. ⌜ (r ≡ partServed self (now (mem .entry)) t) × (now (mem .exit) ≡ partStored self (now (mem .entry)) t) ⌝ }
     {
         match t {
             Target::One(c, op) => self.one(mem, c, op),
-            Target::CtrlWrite(reg, v) => self.put_ctrl(mem, reg, v),
-            Target::CtrlRead(reg) => self.read_ctrl(reg),
-            Target::AllTrigger(edge) => self.trigger(edge),
-            Target::AllReset => reset(mem),
-            Target::Beyond => self.refuse(1),
+            Target::All(w) => self.serve_all(mem, w),
         }
     }
 
@@ -153,8 +180,8 @@ impl Part {
         if len == 13056 { self.in_range() } else { false }
     }
 
-    // A step of a part and a memory that no. 9 does not refuse, for a caller that knows it.
-    pub fn advance(self, mem: &mut [u8], s: Step) -> PartStepped
+    // A step of a part and a memory that no. 9 does not refuse.
+    fn advance(self, mem: &mut [u8], s: Step) -> PartStepped
         requires { ⌜ Whole self (now mem) ⌝ }
         ensures { λ r. ⌜ (r ≡ partStep self (now (mem .entry)) s) × (now (mem .exit) ≡ partBytes self (now (mem .entry)) s) ⌝ }
     {

@@ -5,9 +5,12 @@ use mathlib.Core.Bool.{Bool}
 use mathlib.Core.List.{List}
 use mathlib.Core.Path.{_≡_}
 use Rattle.channel.specs.declared.state.Channel.{Channel}
+use Rattle.channel.specs.declared.state.Head.{Head}
+use Rattle.channel.specs.declared.state.Headed.{Headed}
 use Rattle.channel.specs.declared.state.Stepped.{Stepped}
 use Rattle.channel.specs.declared.step.Op.{Op}
 use Rattle.sequence.specs.declared.wires.Edge.{Edge}
+use Rattle.channel.specs.Head.{joined, Writes}
 use Rattle.channel.specs.Range.{inRange}
 use Rattle.channel.specs.State.{fresh}
 use Rattle.channel.specs.Step.{servedBy, servedStore, stepOf, bytesAfter}
@@ -22,7 +25,25 @@ in-range-once self = no-second (λ r h. h)
 pub new-once : Once Channel (λ r. r ≡ fresh)
 new-once = no-second (λ r h. h)
 
+pub join-once : (self : Head) (sla lens status counts settings : List ℕ) → Once Channel (λ r. r ≡ joined self sla lens status counts settings)
+join-once self sla lens status counts settings = no-second (λ r h. h)
+
 -- ---- step.rt
+-- what is told of the whole channel tells each part: the head, and each table
+pub serve-lent-once : (self : Head) (sla lens status counts settings : List ℕ) (number : ℕ) (mem : List ℕ) (op : Op) → Once (Headed × List ℕ × List ℕ × List ℕ × List ℕ × List ℕ × List ℕ) (λ (r, sla′, lens′, status′, counts′, settings′, mem′). Writes (λ c. servedBy c mem number op) self sla lens status counts settings r sla′ lens′ status′ counts′ settings′ × (mem′ ≡ servedStore (joined self sla lens status counts settings) mem number op))
+serve-lent-once self sla lens status counts settings number mem op =
+    no-second (λ o h. λ i.
+    let s = h .0 i in
+    let c = s .channel in (
+      record { head = record { regs = c .regs; flags = c .flags; ptrs = c .ptrs; walk = c .walk; key = c .key }; answer = s .answer },
+      c .slatable,
+      c .tranconfig,
+      c .status,
+      c .bytecount,
+      c .settings,
+      h .1 i,
+    ))
+
 pub serve-once : (self : Channel) (number : ℕ) (mem : List ℕ) (op : Op) → Once (Stepped × List ℕ) (λ (r, mem′). (r ≡ servedBy self mem number op) × (mem′ ≡ servedStore self mem number op))
 serve-once self number mem op = no-second (λ o h. both (h .0) (h .1))
 

@@ -16,6 +16,9 @@ pub read-line-once : (line : List ℕ) → Once Line (λ r. r ≡ lineOf line)
 read-line-once line = no-second (λ r h. h)
 
 -- ---- writing.rt
+pub put-once : (out : List ℕ) (at : ℕ) (text : List ℕ) → Once (ℕ × List ℕ) (λ (r, out′). Put out at text r out′)
+put-once out at text = no-second (λ o h. both (h .place) (h .bytes))
+
 pub write-header-once : (out : List ℕ) (at : ℕ) → Once (ℕ × List ℕ) (λ (r, out′). Put out at (textIf (roomy (length out) at) header) r out′)
 write-header-once out at = no-second (λ o h. both (h .place) (h .bytes))
 

@@ -191,9 +191,9 @@ pub fn frame_in<'a>(p: Phase, sla: &'a [u8; 64], lens: &'a [u8; 65], counts: &'a
 {
     match p {
         Phase::Idle => true,
-        Phase::Address(n) => frame_at(p, n, sla, lens, counts),
-        Phase::Sending(n) => frame_at(p, n, sla, lens, counts),
-        Phase::Receiving(n) => frame_at(p, n, sla, lens, counts),
+        Phase::Address(n) => frame_at(p, n as usize, sla, lens, counts),
+        Phase::Sending(n) => frame_at(p, n as usize, sla, lens, counts),
+        Phase::Receiving(n) => frame_at(p, n as usize, sla, lens, counts),
         Phase::Stopping => true,
         Phase::Waiting => true,
     }

@@ -1,11 +1,11 @@
 // The parts of a channel's record.
 
-// Where a sequence on the wires stands. The transaction is kept in Address, Sending and Receiving only.
+// Where a sequence on the wires stands. The transaction is kept in Address, Sending and Receiving only, as a byte, so that the record has no gap.
 pub enum Phase {
     Idle,
-    Address(usize),
-    Sending(usize),
-    Receiving(usize),
+    Address(u8),
+    Sending(u8),
+    Receiving(u8),
     Stopping,
     Waiting,
 }

@@ -4,6 +4,7 @@ mod writing;
 
 pub use reading::Line;
 pub use reading::read_line;
+pub use writing::put;
 pub use writing::unreadable;
 pub use writing::write_answer;
 pub use writing::write_header;

@@ -1,7 +1,7 @@
 // The lines that the script program prints: the header, and a line for each answer.
 ghost use mathlib.Core.Path.{_≡_};
 ghost use Prim.Native.Nat.{_+_, _<_, _≤_};
-ghost use lib.ListN.{length, take, drop};
+ghost use lib.ListN.{length, take};
 ghost use Rattle.script.specs.Answer.{Put, decimalOf, levelOf, middleOf, busyOf, onlyIf, entryOf, actionOf, orOf, actionsOf, answerLine, header, roomy, textIf, noAnswer};
 use part::Act;
 use part::PartAnswer;
@@ -9,7 +9,8 @@ use sequence::Action;
 
 // ---- pieces of text, each put at a place of the output; the place after it comes back
 
-fn put(out: &mut [u8], at: usize, text: &[u8]) -> usize
+// Puts a text into a buffer at a place.
+pub fn put(out: &mut [u8], at: usize, text: &[u8]) -> usize
     requires { ⌜ at + length (now text) ≤ length (now out) ⌝ }
     ensures { λ r. ⌜ Put (now (out .entry)) at (now (text .entry)) r (now (out .exit)) ⌝ }
 {
@@ -32,37 +33,46 @@ fn put_if(out: &mut [u8], at: usize, wanted: bool, b: u8) -> usize
     at
 }
 
-// The digits of a number, from a place of the array to its end.
-struct Figures {
-    digits: [u8; 20],
-    from: usize,
+// How many decimal digits a number of two or more has.
+fn width(x: u64) -> usize
+    requires { ⌜ 10 ≤ x ⌝ }
+    ensures { λ r. ⌜ (r ≡ length (decimalOf x)) × (r ≤ 20) ⌝ }
+{
+    let tens = x / 10;
+    let mut limit: u64 = 10;
+    let mut n = 2;
+    while limit <= tens {
+        limit *= 10;
+        n += 1;
+    }
+    n
 }
 
-fn decimal(x: u64) -> Figures
-    ensures { λ r. ⌜ (drop (r .from) (r .digits) ≡ decimalOf x) × (r .from ≤ 20) × (length (r .digits) ≡ 20) ⌝ }
+// Puts a number of n digits, the last one first.
+fn put_digits(out: &mut [u8], at: usize, x: u64, n: usize) -> usize
+    requires { ⌜ (at + n ≤ length (now out)) × (n ≡ length (decimalOf x)) ⌝ }
+    ensures { λ r. ⌜ Put (now (out .entry)) at (decimalOf x) r (now (out .exit)) ⌝ }
 {
-    let mut digits = [0u8; 20];
-    let mut i: usize = 20;
+    let mut i = n;
     let mut rest = x;
-    while 0 < i {
+    while 10 <= rest {
         i -= 1;
-        digits[i] = 48 + (rest % 10) as u8;
-        if rest < 10 {
-            return Figures { digits, from: i };
-        }
+        out[at + i] = 48 + (rest % 10) as u8;
         rest /= 10;
     }
-    Figures { digits, from: 0 }
+    out[at] = 48 + rest as u8;
+    at + n
 }
 
 fn put_decimal(out: &mut [u8], at: usize, x: u64) -> usize
     requires { ⌜ at + 20 ≤ length (now out) ⌝ }
     ensures { λ r. ⌜ Put (now (out .entry)) at (decimalOf x) r (now (out .exit)) × (r ≤ at + 20) ⌝ }
 {
-    let d = decimal(x);
-    let digits = d.digits;
-    let from = d.from;
-    put(out, at, &digits[from..])
+    if x < 10 {
+        out[at] = 48 + x as u8;
+        return at + 1;
+    }
+    put_digits(out, at, x, width(x))
 }
 
 fn level(int: bool) -> u8
@@ -110,7 +120,10 @@ fn put_letters(out: &mut [u8], at: usize, bytes: [u8; 4], n: usize) -> usize
     requires { ⌜ (at + 4 ≤ length (now out)) × (n ≤ 4) ⌝ }
     ensures { λ r. ⌜ Put (now (out .entry)) at (take n bytes) r (now (out .exit)) × (r ≤ at + 4) ⌝ }
 {
-    put(out, at, &bytes[..n])
+    let p = put_if(out, at, 0 < n, bytes[0]);
+    let q = put_if(out, p, 1 < n, bytes[1]);
+    let r = put_if(out, q, 2 < n, bytes[2]);
+    put_if(out, r, 3 < n, bytes[3])
 }
 
 fn put_entry(out: &mut [u8], at: usize, later: bool, c: u8, a: Action) -> usize
@@ -148,10 +161,13 @@ fn put_actions(out: &mut [u8], at: usize, acts: [Act; 3]) -> usize
     let one = busy(first);
     let two = either(one, busy(second));
     let three = either(two, busy(third));
-    let p = put_action(out, at, false, 0, first);
-    let q = put_action(out, p, one, 1, second);
-    let r = put_action(out, q, two, 2, third);
-    put_if(out, r, !three, b'-')
+    if three {
+        let p = put_action(out, at, false, 0, first);
+        let q = put_action(out, p, one, 1, second);
+        return put_action(out, q, two, 2, third);
+    }
+    out[at] = b'-';
+    at + 1
 }
 
 // ---- the lines

@@ -119,8 +119,8 @@ fn ack_turn(p: Phase) -> Turn
 {
     match p {
         Phase::Idle => Turn::Unawaited,
-        Phase::Address(n) => Turn::AckAddress(n),
-        Phase::Sending(n) => Turn::AckSending(n),
+        Phase::Address(n) => Turn::AckAddress(n as usize),
+        Phase::Sending(n) => Turn::AckSending(n as usize),
         Phase::Receiving(_) => Turn::Unawaited,
         Phase::Stopping => Turn::Unawaited,
         Phase::Waiting => Turn::Unawaited,
@@ -132,8 +132,8 @@ fn nack_turn(p: Phase) -> Turn
 {
     match p {
         Phase::Idle => Turn::Unawaited,
-        Phase::Address(n) => Turn::NackAddress(n),
-        Phase::Sending(n) => Turn::NackSending(n),
+        Phase::Address(n) => Turn::NackAddress(n as usize),
+        Phase::Sending(n) => Turn::NackSending(n as usize),
         Phase::Receiving(_) => Turn::Unawaited,
         Phase::Stopping => Turn::Unawaited,
         Phase::Waiting => Turn::Unawaited,
@@ -147,7 +147,7 @@ fn byte_turn(p: Phase, b: u8) -> Turn
         Phase::Idle => Turn::Unawaited,
         Phase::Address(_) => Turn::Unawaited,
         Phase::Sending(_) => Turn::Unawaited,
-        Phase::Receiving(n) => Turn::Receive(n, b),
+        Phase::Receiving(n) => Turn::Receive(n as usize, b),
         Phase::Stopping => Turn::Unawaited,
         Phase::Waiting => Turn::Unawaited,
     }

@@ -22,7 +22,7 @@ use Rattle.part.specs.declared.state.PartAnswer.{PartAnswer}
 use Rattle.part.specs.Map.{channelAt, ctrlAt, writeTarget, readTarget, wireTarget, targetOf}
 use Rattle.part.specs.Registers.{ctrlRead}
 use Rattle.part.specs.State.{freshPart, wiped, quiet, onlyAt, chan, window, putWindow}
-use Rattle.part.specs.Step.{oneStep, oneBytes, partServed, partStored, channelsIn, partIn, accepts, partStep, partBytes}
+use Rattle.part.specs.Step.{oneStep, oneBytes, allServed, allStored, partServed, partStored, channelsIn, partIn, accepts, partStep, partBytes}
 
 -- a line of a row: a step with the answer it gets, or the place in channel c's 4,352 bytes that its DATA points at
 pub data Line : Type 0 where
@@ -47,7 +47,7 @@ unfolding if_then_else_
     channelAt ctrlAt writeTarget readTarget wireTarget targetOf
     ctrlRead
     wiped window putWindow
-    oneStep oneBytes partServed partStored channelsIn partIn accepts partStep partBytes
+    oneStep oneBytes allServed allStored partServed partStored channelsIn partIn accepts partStep partBytes
 seen p m [] = []
 seen p m (gets s r ∷ l) = gets s (partStep p m s .answer) ∷ seen (partStep p m s .part) (partBytes p m s) l
 seen p m (points c at ∷ l) = points c (chan p c .ptrs .buf) ∷ seen p m l

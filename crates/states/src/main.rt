@@ -308,7 +308,7 @@ const TABLE: [u32; 645] = [
     0x01_000000,
     0x1D_000000,
     0x24_000000,
-    0x1D_FFFFFF,
+    0x1D_0000FF,
     0x24_000000,
     0x1E_000003,
     0x24_000000,
@@ -323,7 +323,7 @@ const TABLE: [u32; 645] = [
     0x01_000000,
     0x1E_000000,
     0x24_000000,
-    0x1E_FFFFFF,
+    0x1E_0000FF,
     0x24_000000,
     0x1F_000003,
     0x00_000041,
@@ -343,7 +343,7 @@ const TABLE: [u32; 645] = [
     0x1F_000000,
     0x00_000041,
     0x26_000077,
-    0x1F_FFFFFF,
+    0x1F_0000FF,
     0x00_000041,
     0x26_000077,
     // the direction: writes, then reads
@@ -781,9 +781,9 @@ fn byte(n: usize) -> u8 {
 fn phase_of(p: usize, n: usize) -> Phase {
     match p {
         0 => Phase::Idle,
-        1 => Phase::Address(n),
-        2 => Phase::Sending(n),
-        3 => Phase::Receiving(n),
+        1 => Phase::Address(byte(n)),
+        2 => Phase::Sending(byte(n)),
+        3 => Phase::Receiving(byte(n)),
         4 => Phase::Stopping,
         _ => Phase::Waiting,
     }
@@ -856,9 +856,9 @@ fn part_of(k: [usize; 32], i: usize) -> Part
 fn place(p: Phase) -> u64 {
     match p {
         Phase::Idle => 0,
-        Phase::Address(n) => n as u64 % 0x1000000 * 8 + 1,
-        Phase::Sending(n) => n as u64 % 0x1000000 * 8 + 2,
-        Phase::Receiving(n) => n as u64 % 0x1000000 * 8 + 3,
+        Phase::Address(n) => n as u64 * 8 + 1,
+        Phase::Sending(n) => n as u64 * 8 + 2,
+        Phase::Receiving(n) => n as u64 * 8 + 3,
         Phase::Stopping => 4,
         Phase::Waiting => 5,
     }

@@ -1,4 +1,5 @@
 -- `bench::finish` meets its contract.
+use Rattle.bench.specs.Performing.Led.{none}
 use borrow.Author.Needs.{needs}
 use Rattle.bench.proofs.finish.Statement.{statement}
 use Rattle.bench.proofs.finish.Tie as tie
@@ -8,10 +9,12 @@ finish-spec =
     tie.close
     (tie.spec
     (λ c. search needs)
-    (λ c. λ κs. c .before .before .before .before .before .before .before .before .pre)
+    (λ c. λ κs. search needs)
+    (λ c. λ κs. search needs)
     (λ c. λ κs. search needs)
     (λ c. search needs)
     (λ c. search needs)
-    (λ c. rw (c .stop .ensures) (c .before .before .before .before .before .answer-block .ensures))
+    (λ c. search needs)
+    (λ c. rw (c .stop .ensures) (c .before .before .before .before .before .before .before .answer-from .ensures))
     (λ c. λ κs. search needs)
-    (λ c. rw (c .stop2 .ensures) (c .before .before .before .before .before .before .pre)))
+    (λ c. rw (c .stop2 .ensures) (record { whole = c .before .before .before .before .before .before .before .pre .0; led = none })))

@@ -1,19 +1,19 @@
 -- A line that came in pieces is read as the whole line is.
-use Prim.Native.Nat.{ℕ, suc, _+_, _<_, _≤_}
+use Prim.Native.Nat.{ℕ, _+_, _<_, _≤_}
+use mathlib.Core.Bool.{Bool, true, false}
 use mathlib.Core.List.{List, [], _∷_, _++_, append-nil, append-assoc}
 use mathlib.Core.Path.{_≡_, refl, sym, _∙_, ap, subst}
 use native.Mathlib.Numerals.{add-one}
 use native.Mathlib.Omega.{arith}
-use borrow.Author.Tests.{ltb-true, ltb-false, eqb-true, le-leb}
-use lib.Dec.{eqb, ltb}
-use lib.ListN.{length, take, set, replicate, length-append, length-take, length-set, length-replicate}
+use borrow.Author.Tests.{ltb-true, ltb-false, leb-true, leb-false}
+use lib.Dec.{leb, ltb}
+use lib.ListN.{length, take, set, length-append, length-take, length-set, length-replicate}
 use lib.Seq.{take-all, take-append-le, take-suc-set}
-use Rattle.laws.specs.Cases.{pick-true, pick-holds}
+use Rattle.laws.specs.Cases.{pick-holds}
 use Rattle.script.specs.Grammar.{lineOf}
 use Rattle.script.specs.Laws.Grammar.{first-twelve}
-use Rattle.script.specs.declared.reading.Line.{Line}
 use Rattle.bench.specs.declared.Start.{Start}
-use Rattle.bench.specs.Keeping.{noLine, withByte, lengthened, readOf, readOn}
+use Rattle.bench.specs.Keeping.{noLine, withByte, lengthened, keptOf}
 
 -- what is kept of the bytes l: the first twelve
 record Keeps (s : Start) (l : List ℕ) : Type 0 where
@@ -64,23 +64,26 @@ keeps-more : (s : Start) (l rest : List ℕ) → Keeps s l → Keeps (lengthened
 keeps-more s l [] k = subst (Keeps s) (sym (append-nil l)) k
 keeps-more s l (b ∷ rest) k = subst (Keeps (lengthened s (b ∷ rest))) (append-assoc l (b ∷ []) rest) (keeps-more (withByte s b) (l ++ (b ∷ [])) rest (with-byte s l b k))
 
-kept-read : (s : Start) (l : List ℕ) → Keeps s l → readOf (s .bytes) (s .len) ≡ lineOf l
-unfolding readOf
-kept-read s l k =
-    let n = length-take 12 l in
-    let h : s .len ≤ 12 = omega (arith, k .count, n) in
-    sym (pick-true _ _ _ _ (le-leb _ _ h) (sym (first-twelve l) ∙ ap lineOf (sym (k .bytes))))
+kept-few : (n : ℕ) → n ≤ 12 → keptOf n ≡ n
+unfolding keptOf
+kept-few n h = pick-holds (λ (x : ℕ). x ≡ n) (ltb n 12) (λ _. refl) (λ t. let g = ltb-false n 12 t in omega arith)
 
-no-byte : (l : List ℕ) → length (take 12 l) ≡ 0 → l ≡ []
-no-byte [] e = refl
-no-byte (x ∷ l) e = absurd (omega arith)
+-- of a line's first twelve bytes and what follows, the first twelve are those of the line
+twelve-and : (a b : List ℕ) (w : Bool) → leb 12 (length a) ≡ w → take 12 (take 12 a ++ b) ≡ take 12 (a ++ b)
+twelve-and a b true e =
+    let h = leb-true 12 (length a) e in
+    let n : length (take 12 a) ≡ 12 = length-take 12 a ∙ omega arith in
+    take-append-le 12 (take 12 a) b (omega (arith, n)) ∙ take-all 12 (take 12 a) (omega (arith, n)) ∙ sym (take-append-le 12 a b h)
+twelve-and a b false e = let h = leb-false 12 (length a) e in ap (λ (x : List ℕ). take 12 (x ++ b)) (take-all 12 a (omega arith))
 
--- A LINE IN TWO PIECES
-pub read-in-pieces : (a b : List ℕ) → readOn (lengthened noLine a) b ≡ lineOf (a ++ b)
-unfolding readOn
+-- A LINE IN TWO PIECES: what is kept of the first, with the second behind it, is read as the whole line
+pub read-in-pieces : (a b : List ℕ) → lineOf (take (keptOf (lengthened noLine a .len)) (lengthened noLine a .bytes) ++ b) ≡ lineOf (a ++ b)
 read-in-pieces a b =
     let s = lengthened noLine a in
     let k = keeps-more noLine [] a keeps-none in
-    pick-holds (λ (x : Line). x ≡ lineOf (a ++ b)) (eqb (s .len) 0)
-    (λ t. ap (λ (x : List ℕ). lineOf (x ++ b)) (sym (no-byte a (sym (k .count) ∙ eqb-true _ _ t))))
-    (λ _. kept-read (lengthened s b) (a ++ b) (keeps-more s a b k))
+    let n = length-take 12 a in
+    let e : keptOf (s .len) ≡ s .len = kept-few (s .len) (omega (arith, k .count, n)) in
+    ap (λ (x : List ℕ). lineOf (x ++ b)) (ap (λ (j : ℕ). take j (s .bytes)) e ∙ k .bytes)
+    ∙ sym (first-twelve (take 12 a ++ b))
+    ∙ ap lineOf (twelve-and a b (leb 12 (length a)) refl)
+    ∙ first-twelve (a ++ b)

@@ -9,6 +9,7 @@ use lib.Dec.{eqb}
 use Rattle.laws.specs.Pick.{if_then_else_}
 use Rattle.laws.specs.Cases.{pick-true, pick-false}
 use Rattle.rules.specs.declared.registers.Register.{Register}
+use Rattle.rules.specs.declared.state.Ptrs.{Ptrs}
 use Rattle.rules.specs.declared.registers.Register.the-variants.{Status, Slatable, Tranconfig, Data, Transel, Bytecount, Setting}
 use Rattle.rules.specs.Registers.{Known}
 use Rattle.rules.specs.Laws.Access.{not-past, placed, sla-open, conf-open, data-open, sel-open}
@@ -27,22 +28,22 @@ pub known-setting : (reg : Register) (n : ℕ) → Known reg → reg ≡ Setting
 known-setting reg n h e = rw e at h
 
 -- ---- a read
-module _ (c : Channel) (reg : Register) (e : readRefusal c reg ≡ 0) where
-  pub read-sla : reg ≡ Slatable → c .ptrs .sla < 64
+module _ (p : Ptrs) (reg : Register) (e : readRefusal p reg ≡ 0) where
+  pub read-sla : reg ≡ Slatable → p .sla < 64
   unfolding readRefusal
-  read-sla q = let h = not-past 63 (c .ptrs .sla) (rw q at e) in omega arith
+  read-sla q = let h = not-past 63 (p .sla) (rw q at e) in omega arith
 
-  pub read-conf : reg ≡ Tranconfig → c .ptrs .conf < 65
+  pub read-conf : reg ≡ Tranconfig → p .conf < 65
   unfolding readRefusal
-  read-conf q = let h = not-past 64 (c .ptrs .conf) (rw q at e) in omega arith
+  read-conf q = let h = not-past 64 (p .conf) (rw q at e) in omega arith
 
-  pub read-data : (n : ℕ) → reg ≡ Data → n ≡ 4352 → c .ptrs .buf < n
+  pub read-data : (n : ℕ) → reg ≡ Data → n ≡ 4352 → p .buf < n
   unfolding readRefusal
-  read-data n q l = let h = placed (c .ptrs .buf) (rw q at e) in omega arith
+  read-data n q l = let h = placed (p .buf) (rw q at e) in omega arith
 
-  pub read-count : reg ≡ Bytecount → c .ptrs .count < 64
+  pub read-count : reg ≡ Bytecount → p .count < 64
   unfolding readRefusal
-  read-count q = let h = not-past 63 (c .ptrs .count) (rw q at e) in omega arith
+  read-count q = let h = not-past 63 (p .count) (rw q at e) in omega arith
 
 pub ruleset reads = (known-status, known-setting, read-sla, read-conf, read-data, read-count, needs)
 
@@ -71,8 +72,6 @@ module _ (c : Channel) (m : List ℕ) (a : Accepted c m) where
 
   pub accepted-count : countOf c ≤ 64
   accepted-count = range-count c (a .ranged)
-
-pub ruleset writes = (known-setting, write-sla, write-conf, write-data, write-sel, accepted-sel, accepted-count, needs)
 
 -- ---- a step, from its number and what follows
 pub guarded-no : (c : Channel) (d r : Stepped) (n k : ℕ) → n ≡ k → (n ≡ 0 → ⊥) → r ≡ refused c n → r ≡ guarded k c d

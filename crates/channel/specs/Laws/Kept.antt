@@ -182,7 +182,7 @@ controlled-in c k h =
     (λ _. asks _ g (c .walk .phase) k (teAfter c k) (phase-in (pointed (moded c k) k) [] g)))
 
 -- ---- reads
-read-in : (c : Channel) (m : List ℕ) (reg : Register) → readRefusal c reg ≡ 0 → In c → Good (readBy c m reg)
+read-in : (c : Channel) (m : List ℕ) (reg : Register) → readRefusal (c .ptrs) reg ≡ 0 → In c → Good (readBy c m reg)
 unfolding readRefusal readBy
 read-in c m (Status n) e h = h
 read-in c m Control e h = h

@@ -12,23 +12,25 @@ use Rattle.sequence.specs.declared.wires.Edge.{Edge}
 use Rattle.channel.specs.declared.state.Channel.{Channel}
 use Rattle.channel.specs.declared.step.Op.{Op}
 use Rattle.channel.specs.Range.{inRange}
-use Rattle.channel.specs.Step.{servedBy, servedStore}
+use Rattle.channel.specs.Step.{servedBy, servedStore, Accepted}
 use Rattle.channel.specs.Laws.Kept.{serves-in-range, fresh-in-range, served-length}
 use Rattle.channel.specs.Laws.Frames.{trigger-in-range}
 use Rattle.part.specs.declared.map.Ctrl.{Ctrl}
 use Rattle.part.specs.declared.map.Ctrl.the-variants.{Ctrlstatus, Ctrlintmsk, Reserved, DeviceId, Ctrlpreset, Nothing, Ctrlrdy}
 use Rattle.part.specs.declared.map.Step.{Step}
 use Rattle.part.specs.declared.map.Target.{Target}
-use Rattle.part.specs.declared.map.Target.the-variants.{One, CtrlWrite, CtrlRead, AllTrigger, AllReset, Beyond}
+use Rattle.part.specs.declared.map.Common.{Common}
+use Rattle.part.specs.declared.map.Target.the-variants.{One, All}
+use Rattle.part.specs.declared.map.Common.the-variants.{CtrlWrite, CtrlRead, AllTrigger, AllReset, Beyond}
 use Rattle.part.specs.declared.state.Part.{Part}
 use Rattle.part.specs.declared.state.PartStepped.{PartStepped}
 use Rattle.part.specs.State.{blank, chan, freshPart, wiped, window, withKey}
 use Rattle.part.specs.Map.{targetOf, InPart}
 use Rattle.part.specs.Registers.{ctrlKept, ctrlRead, ctrlWritten, ctrlpresetOf, ctrlPut, ctrlStore}
-use Rattle.part.specs.Step.{edgeChannel, oneStep, oneBytes, triggerStep, partServed, partStored, channelsIn, maskIn, partIn, accepts, partStep, partBytes, Whole}
+use Rattle.part.specs.Step.{edgeChannel, allServed, allStored, oneStep, oneBytes, triggerStep, partServed, partStored, channelsIn, maskIn, partIn, accepts, partStep, partBytes, Whole}
 use Rattle.part.specs.Laws.Map.{in-part}
 use Rattle.part.specs.Laws.Memory.{fits, length-window, length-put}
-use Rattle.part.specs.Laws.Range.{accepts-whole}
+use Rattle.part.specs.Laws.Range.{accepts-whole, chan-in-range}
 
 -- ---- the channels
 set-in : (f : Channel → Channel) → ((x : Channel) → inRange x ≡ true → inRange (f x) ≡ true) → (l : List Channel) (c : ℕ) → channelsIn l ≡ true → channelsIn (set l c (f (getD l c blank))) ≡ true
@@ -97,19 +99,28 @@ module _ (p : Part) (h : In p) where
   unfolding ctrlPut Good
   put-in reg v = pick-holds Good (resetsOf (ctrlpresetOf reg) v (p .key)) (λ _. fresh-in) (λ _. written-in (keyAfter (ctrlpresetOf reg) v) reg v)
 
+  all-in : (t : Common) → Good (allServed p t)
+  unfolding allServed Good
+  all-in (CtrlWrite reg v) = put-in reg v
+  all-in (CtrlRead reg) = read-in reg
+  all-in (AllTrigger edge) = trigger-in edge
+  all-in AllReset = fresh-in
+  all-in Beyond = h
+
   served-in : (m : List ℕ) (t : Target) → Good (partServed p m t)
-  unfolding partServed Good
+  unfolding partServed
   served-in m (One c op) = one-in m c op
-  served-in m (CtrlWrite reg v) = put-in reg v
-  served-in m (CtrlRead reg) = read-in reg
-  served-in m (AllTrigger edge) = trigger-in edge
-  served-in m AllReset = fresh-in
-  served-in m Beyond = h
+  served-in m (All t) = all-in t
 
 -- a channel's step does not
 pub one-in-range : (p : Part) (m : List ℕ) (c : ℕ) (op : Op) → partIn p ≡ true → partIn (oneStep p m c op .part) ≡ true
 unfolding Good
 one-in-range p m c op e = of-in _ (one-in p (in-of p e) m c op)
+
+-- nor does a step of the whole part
+pub all-in-range : (p : Part) (t : Common) → partIn p ≡ true → partIn (allServed p t .part) ≡ true
+unfolding Good
+all-in-range p t e = of-in _ (all-in p (in-of p e) t)
 
 -- NO STEP LEADS OUT OF RANGE
 pub part-stays-in-range : (p : Part) (m : List ℕ) (s : Step) → partIn p ≡ true → partIn (partStep p m s .part) ≡ true
@@ -138,14 +149,18 @@ module _ (p : Part) (m : List ℕ) (whole : length m ≡ 13056) where
   unfolding oneBytes
   one-bytes-length c op h = length-put c _ m (one-length c op h) (fits c m h whole)
 
+  pub all-length : (t : Common) → length (allStored p m t) ≡ length m
+  unfolding allStored ctrlStore Same
+  all-length (CtrlWrite reg v) = pick-holds (Same m) (resetsOf (ctrlpresetOf reg) v (p .key)) (λ _. wiped-length ∙ sym whole) (λ _. refl)
+  all-length (CtrlRead reg) = refl
+  all-length (AllTrigger edge) = refl
+  all-length AllReset = wiped-length ∙ sym whole
+  all-length Beyond = refl
+
   stored-length : (t : Target) → InPart t → Same m (partStored p m t)
-  unfolding partStored ctrlStore Same
+  unfolding partStored Same
   stored-length (One c op) h = one-bytes-length c op h
-  stored-length (CtrlWrite reg v) h = pick-holds (Same m) (resetsOf (ctrlpresetOf reg) v (p .key)) (λ _. wiped-length ∙ sym whole) (λ _. refl)
-  stored-length (CtrlRead reg) h = refl
-  stored-length (AllTrigger edge) h = refl
-  stored-length AllReset h = wiped-length ∙ sym whole
-  stored-length Beyond h = refl
+  stored-length (All t) h = all-length t
 
 pub part-length : (p : Part) (m : List ℕ) (s : Step) → length (partBytes p m s) ≡ length m
 unfolding partBytes Same
@@ -157,3 +172,13 @@ part-length p m s =
 -- ---- what no. 9 does not refuse, it does not refuse after a step either
 pub whole-kept : (p : Part) (m : List ℕ) (s : Step) → Whole p m → Whole (partStep p m s .part) (partBytes p m s)
 whole-kept p m s w = record { ranged = part-stays-in-range p m s (w .ranged); whole = part-length p m s ∙ w .whole }
+
+-- and its channels are accepted, each with its own bytes
+pub chan-accepted : (p : Part) (m : List ℕ) (c : ℕ) → c < 3 → Whole p m → Accepted (chan p c) (window c m)
+chan-accepted p m c h w = record { ranged = chan-in-range p c (w .ranged); whole = length-window c m (fits c m h (w .whole)) }
+
+pub one-whole : (p : Part) (m : List ℕ) (c : ℕ) (op : Op) → c < 3 → Whole p m → Whole (oneStep p m c op .part) (oneBytes p m c op)
+one-whole p m c op h w = record { ranged = one-in-range p m c op (w .ranged); whole = one-bytes-length p m (w .whole) c op h ∙ w .whole }
+
+pub all-whole : (p : Part) (m : List ℕ) (t : Common) → Whole p m → Whole (allServed p t .part) (allStored p m t)
+all-whole p m t w = record { ranged = all-in-range p t (w .ranged); whole = all-length p m (w .whole) t ∙ w .whole }

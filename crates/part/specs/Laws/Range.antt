@@ -2,17 +2,18 @@
 use Prim.Native.Nat.{ℕ, zero, suc, _<_}
 use mathlib.Core.Bool.{true, false}
 use mathlib.Core.List.{List, [], _∷_}
-use mathlib.Core.Path.{_≡_}
+use mathlib.Core.Path.{_≡_, refl}
 use native.Mathlib.Nat.{not-suc-le-zero, le-of-suc-le-suc}
 use borrow.Author.Tests.{eqb-true, eq-eqb}
 use lib.ListN.{length, getD}
 use Rattle.laws.specs.Pick.{if_then_else_}
 use Rattle.laws.specs.Cases.{both, with}
+use Rattle.rules.specs.Range.{pointersIn, registersIn, countingOf, endedIn, blankOf, recordedIn, walkIn, frameIn}
 use Rattle.channel.specs.declared.state.Channel.{Channel}
 use Rattle.channel.specs.Range.{inRange}
 use Rattle.part.specs.declared.map.Step.{Step}
 use Rattle.part.specs.declared.state.Part.{Part}
-use Rattle.part.specs.State.{blank, refusedPart}
+use Rattle.part.specs.State.{blank, chan, refusedPart}
 use Rattle.part.specs.Map.{targetOf}
 use Rattle.part.specs.Step.{channelsIn, partIn, accepts, partServed, partStored, partStep, partBytes, Whole}
 
@@ -25,6 +26,20 @@ each-in (x ∷ l) (suc c) e h = each-in l c (both _ _ e .1) (le-of-suc-le-suc h)
 pub channels-of : (p : Part) → partIn p ≡ true → channelsIn (p .channels) ≡ true
 unfolding partIn
 channels-of p e = both _ _ e .0
+
+-- what stands past the third channel is in range too, so that a channel's number need not be below 3
+blank-in : inRange blank ≡ true
+unfolding inRange pointersIn registersIn walkIn endedIn countingOf recordedIn blankOf frameIn if_then_else_
+blank-in = refl
+
+channel-in : (l : List Channel) (c : ℕ) → channelsIn l ≡ true → inRange (getD l c blank) ≡ true
+unfolding channelsIn
+channel-in [] c e = blank-in
+channel-in (x ∷ l) zero e = both _ _ e .0
+channel-in (x ∷ l) (suc c) e = channel-in l c (both _ _ e .1)
+
+pub chan-in-range : (p : Part) (c : ℕ) → partIn p ≡ true → inRange (chan p c) ≡ true
+chan-in-range p c e = channel-in (p .channels) c (channels-of p e)
 
 -- what is not refused by no. 9
 pub accepts-whole : (p : Part) (m : List ℕ) → accepts p (length m) ≡ true → Whole p m

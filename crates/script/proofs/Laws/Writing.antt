@@ -1,18 +1,20 @@
 -- Texts put one after the other.
 use mathlib.Core.Bool.{Bool, true, false}
-use mathlib.Core.List.{List, [], _∷_, _++_, append-assoc}
+use mathlib.Core.List.{List, [], _∷_, _++_, append-nil}
 use mathlib.Core.Path.{_≡_, refl, sym, _∙_, ap}
-use Prim.Native.Nat.{ℕ, zero, suc, _+_, _-_, _/_, _%_, _<_, _≤_}
+use Prim.Native.Nat.{ℕ, zero, suc, _+_, _-_, _*_, _/_, _%_, _^_, _<_, _≤_}
+use native.Mathlib.Nat.{pow-suc, one-le-pow, pow-le-pow-right, lt-of-not-le}
 use native.Mathlib.Numerals.{add-one}
 use native.Mathlib.Omega.{arith}
 use borrow.Author.Needs.{needs}
 use lib.Dec.{ltb}
-use lib.ListN.{length, getD, take, drop, set, length-append, length-drop, drop-of-length-le}
-use lib.Seq.{sets, drop-cons, take-all}
-use borrow.Author.Tests.{le-leb, lt-leb, lt-ltb, le-ltb, leb-true}
+use lib.ListN.{length, getD, take, drop, set, length-append, drop-of-length-le}
+use lib.Seq.{sets, drop-cons, set-comm}
+use borrow.Author.Tests.{le-leb, lt-leb, lt-ltb, le-ltb, leb-true, ltb-true, ltb-false}
 use Rattle.laws.specs.Pick.{if_then_else_}
-use Rattle.laws.specs.Cases.{flag-true, flag-false}
-use Rattle.script.specs.Answer.{Put, textIf, digitsOf, roomy}
+use Rattle.laws.specs.Cases.{flag-true, flag-false, false-not-true}
+use Rattle.sequence.specs.declared.wires.Action.{Action}
+use Rattle.script.specs.Answer.{Put, textIf, digitsOf, busyOf, orOf, actionOf, joined, roomy}
 
 sets-append : (l xs ys : List ℕ) (i : ℕ) → sets l i (xs ++ ys) ≡ sets (sets l i xs) (i + length xs) ys
 sets-append l [] ys i = let e : i + 0 ≡ i = omega arith in rw e
@@ -57,40 +59,129 @@ put-all l m t at i p k h =
 
 pub ruleset puts = (put-yes, put-no, put-first, put-more, put-all, flag-true, flag-false, needs)
 
--- ---- decimal digits, the last one first: those that are found already stand behind those still to be found
-pub digits-none : (l r : List ℕ) (i x : ℕ) → r ≡ digitsOf i x ++ drop i l → i ≤ 0 → l ≡ r
+-- ---- how many decimal digits: n of them, where x is from 10 ^ (n - 1) on, below 10 ^ n
+length-digits : (m n x : ℕ) → n ≤ m → 10 ^ n ≤ x → x < 10 ^ suc n → length (digitsOf (suc m) x) ≡ suc n
+unfolding digitsOf if_then_else_
+length-digits m zero x k h p = rw (lt-ltb x 10 p)
+length-digits zero (suc n) x k h p = absurd (omega arith)
+length-digits (suc m) (suc n) x k h p =
+    let h′ : 10 ^ n * 10 ≤ x = rw (pow-suc 10 n) at h in
+    let p′ : x < 10 ^ suc n * 10 = rw (pow-suc 10 (suc n)) at p in
+    let o : 1 ≤ 10 ^ n = one-le-pow n 10 (omega arith) in
+    let e = length-digits m n (x / 10) (omega arith) (omega arith) (omega arith) in
+    rw (le-ltb x 10 (omega arith), length-append, e) (omega arith)
+
+pub width-more : (l n : ℕ) → l * 10 ≡ 10 ^ n → (l * 10) * 10 ≡ 10 ^ (n + 1)
+width-more l n e = rw (add-one, pow-suc 10 n, e)
+
+pub width-few : (l n x : ℕ) → l * 10 ≡ 10 ^ n → l ≤ x / 10 → x < 18446744073709551616 → n + 1 ≤ 20
+width-few l n x e h k =
+    let few : n < 20 = lt-of-not-le (λ q. let w : 100000000000000000000 ≤ 10 ^ n = pow-le-pow-right (omega arith) q in omega arith) in
+    omega arith
+
+pub width-is : (l n x : ℕ) → l * 10 ≡ 10 ^ n → l ≤ x → x / 10 < l → n ≤ 20 → n ≡ length (digitsOf 20 x)
+width-is l zero x e h k f = absurd (omega arith)
+width-is l (suc n) x e h k f =
+    let g : l * 10 ≡ 10 ^ n * 10 = e ∙ pow-suc 10 n in
+    sym (length-digits 19 n x (omega arith) (omega arith) (rw (pow-suc 10 n) (omega arith)))
+
+pub ruleset widths = (width-more, width-few, width-is, needs)
+
+-- ---- decimal digits put, the last one first: those still to be put stand before
+sets-last : (l xs : List ℕ) (at d : ℕ) → sets l at (xs ++ (d ∷ [])) ≡ sets (set l (at + length xs) d) at xs
+sets-last l [] at d = let e : at + 0 ≡ at = omega arith in rw e
+sets-last l (x ∷ xs) at d =
+    let e : suc at + length xs ≡ at + suc (length xs) = omega arith in
+    sets-last (set l at x) xs (suc at) d ∙ rw (e, set-comm l at (at + suc (length xs)) x d (λ q. omega arith))
+
+-- where m + 1 digits are enough, one more changes nothing
+digits-enough : (m x : ℕ) → x < 10 ^ suc m → digitsOf (suc m) x ≡ digitsOf (suc (suc m)) x
+unfolding digitsOf if_then_else_
+digits-enough zero x h = rw (lt-ltb x 10 h)
+digits-enough (suc m) x h =
+    let h′ : x < 10 ^ suc m * 10 = rw (pow-suc 10 (suc m)) at h in
+    rw (digits-enough m (x / 10) (omega arith))
+
+-- the last digit stands behind those of a tenth
+digits-last : (x : ℕ) → 10 ≤ x → x < 18446744073709551616 → digitsOf 20 x ≡ digitsOf 20 (x / 10) ++ ((48 + x % 10) ∷ [])
+unfolding digitsOf if_then_else_
+digits-last x h k =
+    let e : digitsOf 19 (x / 10) ≡ digitsOf 20 (x / 10) = digits-enough 18 (x / 10) (omega arith) in
+    rw (← e, le-ltb x 10 h)
+
+digit-alone : (x : ℕ) → x < 10 → digitsOf 20 x ≡ (48 + x) ∷ []
+unfolding digitsOf if_then_else_
+digit-alone x h = let e : x % 10 ≡ x = omega arith in rw (lt-ltb x 10 h, e)
+
+digits-some : (x : ℕ) → 0 < length (digitsOf 20 x)
 unfolding digitsOf
-digits-none l r i x p h = let e : i ≡ 0 = omega arith in sym (rw e at p)
+digits-some x = rw (length-append (if ltb x 10 then [] else digitsOf 19 (x / 10)) ((48 + x % 10) ∷ [])) (omega arith)
 
-drop-set : (l : List ℕ) (j d : ℕ) → j < length l → drop j (set l j d) ≡ d ∷ drop (suc j) l
-drop-set [] j d h = absurd (omega arith)
-drop-set (x ∷ l) zero d h = refl
-drop-set (x ∷ l) (suc j) d h = drop-set l j d (omega arith)
+pub digits-any : (i x : ℕ) → i ≡ length (digitsOf 20 x) → 1 ≤ i
+digits-any i x e = let k = digits-some x in omega (arith, k)
 
-module _ (l r : List ℕ) (i x : ℕ) (p : r ≡ digitsOf i x ++ drop i l) (h : 0 < i) (k : i ≤ 20) (n : length l ≡ 20) where
-  found : r ≡ (if ltb x 10 then [] else digitsOf (i - 1) (x / 10)) ++ drop (i - 1) (set l (i - 1) (48 + x % 10))
-  unfolding digitsOf
-  found =
-      let e : i ≡ suc (i - 1) = omega arith in
-      let g : i - 1 < length l = omega arith in
-      p ∙ ap (λ (j : ℕ). digitsOf j x ++ drop j l) e ∙ rw (append-assoc, drop-set l (i - 1) (48 + x % 10) g)
+-- the place of the last digit is in the output, and that of the first
+pub digits-in : (at i x n l m : ℕ) → i ≡ length (digitsOf 20 x) → i ≤ n → at + n ≤ m → l ≡ m → at + (i - 1) < l
+digits-in at i x n l m e h k p = let o = digits-any i x e in omega (arith, o)
 
-  pub digits-last : x < 10 → drop (i - 1) (set l (i - 1) (48 + x % 10)) ≡ r
-  unfolding if_then_else_
-  digits-last t = sym (rw (lt-ltb _ _ t) at found)
+pub digits-from : (at i x n l m : ℕ) → i ≡ length (digitsOf 20 x) → i ≤ n → at + n ≤ m → l ≡ m → at < l
+digits-from at i x n l m e h k p = let o = digits-any i x e in omega (arith, o)
 
-  pub digits-more : 10 ≤ x → r ≡ digitsOf (i - 1) (x / 10) ++ drop (i - 1) (set l (i - 1) (48 + x % 10))
-  unfolding if_then_else_
-  digits-more t = rw (le-ltb _ _ t) at found
+pub digits-less : (i x : ℕ) → i ≡ length (digitsOf 20 x) → 10 ≤ x → x < 18446744073709551616 → i - 1 ≡ length (digitsOf 20 (x / 10))
+digits-less i x e h k =
+    let l : length (digitsOf 20 x) ≡ length (digitsOf 20 (x / 10)) + 1 = rw (digits-last x h k) (length-append (digitsOf 20 (x / 10)) ((48 + x % 10) ∷ [])) in
+    omega arith
 
-pub ruleset decimals = (digits-none, digits-last, digits-more, needs)
+pub digits-more : (l m t : List ℕ) (at i x : ℕ) → sets l at t ≡ sets m at (digitsOf 20 x) → i ≡ length (digitsOf 20 x) → 10 ≤ x → x < 18446744073709551616
+    → sets l at t ≡ sets (set m (at + (i - 1)) (48 + x % 10)) at (digitsOf 20 (x / 10))
+digits-more l m t at i x p e h k = p ∙ rw (digits-last x h k, sets-last, digits-less i x e h k)
 
--- all from a place to the end
-pub rest-all : (l : List ℕ) (i : ℕ) → length l ≡ 20 → take (20 - i) (drop i l) ≡ drop i l
-rest-all l i n = take-all (20 - i) (drop i l) (simp length-drop (omega arith))
+pub digits-first : (l m t : List ℕ) (at n x : ℕ) → sets l at t ≡ sets m at (digitsOf 20 x) → x < 10 → n ≡ length t → Put l at t (at + n) (set m at (48 + x))
+digits-first l m t at n x p h e = record { place = omega arith; bytes = sym (rw (digit-alone x h) at p) }
 
-pub rest-length : (l : List ℕ) (i : ℕ) → length l ≡ 20 → length (take (20 - i) (drop i l)) ≡ 20 - i
-rest-length l i n = rw (rest-all l i n) (simp length-drop (omega arith))
+-- one digit
+pub digit-only : (l : List ℕ) (at x : ℕ) → x < 10 → Put l at (digitsOf 20 x) (at + 1) (set l at (48 + x))
+digit-only l at x h = rw (digit-alone x h) (record { place = refl; bytes = refl })
+
+pub ruleset decimals = (digits-any, digits-in, digits-from, digits-less, digits-more, digits-first, needs)
+
+-- ---- letters, up to four
+module _ (l : List ℕ) (i n : ℕ) (h : i < length l) where
+  take-by : (b : Bool) → ltb i n ≡ b → take (n - i) (drop i l) ≡ textIf b (getD l i 0 ∷ []) ++ take (n - suc i) (drop (suc i) l)
+  unfolding textIf if_then_else_
+  take-by true e =
+      let k = ltb-true i n e in
+      let m : n - i ≡ suc (n - suc i) = omega (arith, k) in
+      rw (m, drop-cons l i 0 h)
+  take-by false e =
+      let k = ltb-false i n e in
+      let m : n - i ≡ 0 = omega (arith, k) in
+      let o : n - suc i ≡ 0 = omega (arith, k) in
+      rw (m, o)
+
+  take-if : take (n - i) (drop i l) ≡ textIf (ltb i n) (getD l i 0 ∷ []) ++ take (n - suc i) (drop (suc i) l)
+  take-if = take-by (ltb i n) refl
+
+pub letters-are : (l : List ℕ) (n : ℕ) → length l ≡ 4 → n ≤ 4
+    → take n l ≡ textIf (ltb 0 n) (getD l 0 0 ∷ []) ++ (textIf (ltb 1 n) (getD l 1 0 ∷ []) ++ (textIf (ltb 2 n) (getD l 2 0 ∷ []) ++ textIf (ltb 3 n) (getD l 3 0 ∷ [])))
+letters-are l n e h =
+    let z : n - 0 ≡ n = omega arith in
+    let o : n - 4 ≡ 0 = omega arith in
+    ap (λ (k : ℕ). take k l) (sym z)
+    ∙ rw (take-if l 0 n (omega arith), take-if l 1 n (omega arith), take-if l 2 n (omega arith), take-if l 3 n (omega arith), o, append-nil)
+
+-- ---- no action
+or-none : (a b : Bool) → orOf a b ≡ false → (a ≡ false) × (b ≡ false)
+unfolding if_then_else_
+or-none true b e = absurd (omega (arith, false-not-true (sym e)))
+or-none false b e = (refl, e)
+
+pub put-dash : (l : List ℕ) (at : ℕ) (a b c : Action) → orOf (orOf (busyOf a) (busyOf b)) (busyOf c) ≡ false → Put l at (joined a b c) (at + 1) (set l at 45)
+unfolding actionOf textIf if_then_else_
+put-dash l at a b c e =
+    let two = or-none (orOf (busyOf a) (busyOf b)) (busyOf c) e in
+    let one = or-none (busyOf a) (busyOf b) (two .0) in
+    rw (one .0, one .1, two .1) (record { place = refl; bytes = refl })
 
 -- ---- room for a line
 pub room-none : (len at : ℕ) → len < 80 → false ≡ roomy len at

@@ -1,4 +1,5 @@
 -- `part::state::act_at` meets its contract.
+use Rattle.part.specs.Laws.Acts.{only-at}
 use borrow.Author.Needs.{needs}
 use Rattle.part.proofs.state.act_at.Statement.{statement}
 use Rattle.part.proofs.state.act_at.Tie as tie
@@ -8,6 +9,6 @@ act-at-spec =
     tie.close
     (tie.spec
     (λ c. λ κs. search needs)
-    (λ c. search needs)
-    (λ c. search needs)
-    (λ c. rw (c .no-acts .ensures)))
+    (λ c. λ κs. search needs)
+    (λ c. λ κs. search needs)
+    (λ c. rw (c .act-if3 .ensures, c .before .act-if2 .ensures, c .before .before .act-if .ensures) (only-at _ _ (c .before .before .before .pre))))

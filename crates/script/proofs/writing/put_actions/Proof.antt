@@ -1,7 +1,9 @@
--- `script::writing::put_actions` meets its contract: four texts, one after the other, by flags that are known.
-use Rattle.script.proofs.Laws.Writing.{put-then}
+-- `script::writing::put_actions` meets its contract: three texts, one after the other, by flags that are known, or the one that says that none acts.
+use Rattle.script.proofs.Laws.Writing.{put-then, put-no, put-dash}
 use Rattle.script.specs.Answer.{actionsOf}
 use borrow.Author.Needs.{needs}
+use mathlib.Core.Bool.{not}
+use mathlib.Core.Path.{ap}
 use Rattle.script.proofs.writing.put_actions.Statement.{statement}
 use Rattle.script.proofs.writing.put_actions.Tie as tie
 
@@ -22,16 +24,26 @@ put-actions-spec =
     (λ c. search needs)
     (λ c. search needs)
     (λ c. search needs)
-    (λ c. search needs)
     (λ c.
-    let s = c .before .before in
-    let r = s .before .before .before .before in
+    let r = c .before .before in
     let q = r .before .before .before .before in
     let p = q .before .before .before .before in
-    let three = p .before .before in
+    let three = p .before .before .before in
     let two = three .before .before in
     let one = two .before .before in (
       rw (← one .busy .ensures, ← two .before .busy2 .ensures, ← three .before .busy3 .ensures, ← two .either .ensures, ← three .either2 .ensures)
-          (put-then (p .put-action .ensures .0) (put-then (q .put-action2 .ensures .0) (put-then (r .put-action3 .ensures .0) (s .put-if .ensures .0)))),
+          (put-then (p .put-action .ensures .0)
+          (put-then (q .put-action2 .ensures .0) (put-then (r .put-action3 .ensures .0) (put-no _ _ _ _ (ap not (p .before .before .if1 .taken)))))),
+      search needs,
+    ))
+    (λ c. search needs)
+    (λ c. search needs)
+    (λ c. search needs)
+    (λ c.
+    let three = c .before in
+    let two = three .before .before in
+    let one = two .before .before in (
+      put-dash _ _ _ _ _
+          (rw (← one .busy .ensures, ← two .before .busy2 .ensures, ← three .before .busy3 .ensures, ← two .either .ensures, ← three .either2 .ensures) (c .if1 .left)),
       search needs,
     )))

@@ -1,8 +1,6 @@
--- `script::writing::put_letters` meets its contract: the first n bytes are n bytes.
+-- `script::writing::put_letters` meets its contract: the first n of four bytes are each of them that n counts.
+use Rattle.script.proofs.Laws.Writing.{put-then, letters-are}
 use borrow.Author.Needs.{needs}
-use lib.Seq.{length-take-le}
-use mathlib.Core.Path.{sym}
-use native.Mathlib.Omega.{arith}
 use Rattle.script.proofs.writing.put_letters.Statement.{statement}
 use Rattle.script.proofs.writing.put_letters.Tie as tie
 
@@ -11,7 +9,21 @@ put-letters-spec =
     tie.close
     (tie.spec
     (λ c. search needs)
-    (λ c. sym (length-take-le (c .before .before .before .args .n) (c .before .before .before .args .t3) (search needs)))
-    (λ c. λ κs. let e = length-take-le (c .before .before .before .args .n) (c .before .before .before .args .t3) (search needs) in omega (arith, e))
     (λ c. search needs)
-    (λ c. let e = length-take-le (c .before .before .before .before .before .before .args .n) (c .before .before .before .before .before .before .args .t3) (search needs) in (c .before .before .put .ensures, omega (arith, e))))
+    (λ c. search needs)
+    (λ c. search needs)
+    (λ c. search needs)
+    (λ c. search needs)
+    (λ c. search needs)
+    (λ c. search needs)
+    (λ c. search needs)
+    (λ c.
+    let r = c .before .before in
+    let q = r .before .before .before .before in
+    let p = q .before .before .before .before in
+    let o = p .before .before .before .before in
+    let start = o .before .before .before in (
+      rw (letters-are (start .args .t3) (start .args .n) (start .good .1 .1 .0 .1 .0 .1) (search needs))
+          (put-then (o .put-if .ensures .0) (put-then (p .put-if2 .ensures .0) (put-then (q .put-if3 .ensures .0) (r .put-if4 .ensures .0)))),
+      search needs,
+    )))

@@ -16,6 +16,7 @@ byte-turn-spec =
     (λ c. search needs)
     (λ c. search needs)
     (λ c. search needs)
+    (λ c. search needs)
     (λ c. rw (c .before .p .given .1))
     (λ c. search needs)
     (λ c. search needs))

@@ -7,6 +7,7 @@ pub new-spec : {M : Type 1} → statement M
 new-spec =
     tie.close
     (tie.spec
-    (λ c. search needs)
-    (λ c. search needs)
-    (λ c. rw (c .idle-walk .ensures, c .before .no-flags .ensures)))
+    (λ c. λ κs. search needs)
+    (λ c. λ κs. search needs)
+    (λ c. λ κs. search needs)
+    (λ c. rw (c .join .ensures, c .before .before .new .ensures, c .before .fresh-settings .ensures)))

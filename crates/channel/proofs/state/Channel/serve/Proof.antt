@@ -1,26 +1,13 @@
 -- `channel::state::Channel::serve` meets its contract.
-use Rattle.channel.specs.Step.{servedBy, servedStore}
 use borrow.Author.Needs.{needs}
-use mathlib.Core.Path.{refl}
 use Rattle.channel.proofs.state.Channel.serve.Statement.{statement}
 use Rattle.channel.proofs.state.Channel.serve.Tie as tie
 
 pub serve-spec : {M : Type 1} → statement M
-unfolding servedBy servedStore
 serve-spec =
     tie.close
     (tie.spec
+    (λ c. λ κs. search needs)
+    (λ c. λ κs. search needs)
     (λ c. search needs)
-    (λ c. search needs)
-    (λ c. λ κs. (c .before .before .before .before .before .before .pre, c .place-of .ensures .1))
-    (λ c. search needs)
-    (λ c. search needs)
-    (λ c. λ κs. (c .place-of2 .ensures .1, c .before .before .before .before .before .before .pre .whole))
-    (λ c. search needs)
-    (λ c. λ κs. c .before .before .before .before .before .pre)
-    (λ c. search needs)
-    (λ c. rw (c .before .before .before .before .before .before .op .given .1, ← c .before .before .before .place-of .ensures .0) (c .before .before .write-at .ensures))
-    (λ c. search needs)
-    (λ c. rw (c .before .before .before .before .op2 .given .1, ← c .before .place-of2 .ensures .0) (c .read-at .ensures, refl))
-    (λ c. search needs)
-    (λ c. rw (c .before .before .before .before .before .op3 .given .1) (c .before .before .event-at .ensures)))
+    (λ c. (rw (c .join .ensures) (c .before .before .before .before .before .serve-lent .ensures .0), c .before .before .before .before .before .serve-lent .ensures .1)))

@@ -11,8 +11,8 @@ unfolding stepOf bytesAfter
 step-spec =
     tie.close
     (tie.spec
-    (λ c. search needs)
-    (λ c. search needs)
+    (λ c. λ κs. search needs)
+    (λ c. λ κs. search needs)
     (λ c. (guarded-no _ _ _ _ _ (c .before .before .range-number .ensures) (c .before .if1 .taken) (c .refuse .ensures), kept-no _ _ _ _ (c .before .before .range-number .ensures) (c .before .if1 .taken)))
     (λ c. λ κs. accepts _ _ _ (c .before .before .range-number .ensures) (c .before .if1 .left))
     (λ c. search needs)

@@ -10,6 +10,7 @@ unfolding triggered
 trigger-spec =
     tie.close
     (tie.spec
-    (λ c. search needs)
-    (λ c. λ κs. range-count (c .before .before .args .self) (c .before .before .pre))
-    (λ c. rw (c .beat .ensures, c .before .edge-beat .ensures)))
+    (λ c. λ κs. search needs)
+    (λ c. λ κs. range-count (c .before .before .before .before .before .before .before .before .before .before .before .before .before .before .before .args .self) (c .before .before .before .before .before .before .before .before .before .before .before .before .before .before .before .pre))
+    (λ c. λ κs. search needs)
+    (λ c. rw (c .join .ensures) (rw (← c .before .before .before .before .before .before .before .before .before .edge-beat .ensures) (c .before .before .before .beat .ensures))))

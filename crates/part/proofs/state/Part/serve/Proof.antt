@@ -1,7 +1,6 @@
 -- `part::state::Part::serve` meets its contract.
 use Rattle.part.specs.Step.{partServed, partStored}
 use borrow.Author.Needs.{needs}
-use mathlib.Core.Path.{refl}
 use Rattle.part.proofs.state.Part.serve.Statement.{statement}
 use Rattle.part.proofs.state.Part.serve.Tie as tie
 
@@ -13,21 +12,8 @@ serve-spec =
     (λ c. search needs)
     (λ c. λ κs. (c .before .before .before .before .before .pre .0, rw (c .before .before .t .given .1) at (c .before .before .before .before .before .pre .1)))
     (λ c. search needs)
-    (λ c. λ κs. c .before .before .before .before .before .pre .0 .whole)
-    (λ c. search needs)
-    (λ c. λ κs. search needs)
-    (λ c. search needs)
-    (λ c. λ κs. c .before .before .before .before .pre .0 .ranged)
-    (λ c. search needs)
-    (λ c. λ κs. c .before .before .before .before .pre .0 .whole)
-    (λ c. search needs)
-    (λ c. λ κs. search needs)
+    (λ c. λ κs. c .before .before .before .before .before .pre .0)
     (λ c. search needs)
     (λ c. rw (c .before .before .before .before .before .t .given .1) (c .before .before .one .ensures))
     (λ c. search needs)
-    (λ c. rw (c .before .before .before .before .before .t2 .given .1) (c .before .before .put-ctrl .ensures))
-    (λ c. rw (c .before .before .t3 .given .1) (c .read-ctrl .ensures, refl))
-    (λ c. rw (c .before .before .t4 .given .1) (c .trigger .ensures, refl))
-    (λ c. search needs)
-    (λ c. rw (c .before .before .before .before .enum-told .given .1) (c .before .before .reset .ensures))
-    (λ c. rw (c .before .enum-told2 .given .1) (c .refuse .ensures, refl)))
+    (λ c. rw (c .before .before .before .before .before .t2 .given .1) (c .before .before .serve-all .ensures)))

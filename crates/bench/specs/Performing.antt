@@ -1,0 +1,65 @@
+-- What a line of the script does to the part.
+use Prim.Native.Nat.{ℕ, _<_}
+use mathlib.Core.List.{List}
+use Rattle.part.specs.declared.state.Part.{Part}
+use Rattle.part.specs.declared.state.PartStepped.{PartStepped}
+use Rattle.part.specs.declared.map.Target.{Target}
+use Rattle.part.specs.declared.map.Target.the-variants.{One as OneTarget, All as AllTarget}
+use Rattle.part.specs.Map.{targetOf}
+use Rattle.part.specs.Step.{oneStep, oneBytes, allServed, allStored, partStep, partBytes, Whole}
+use Rattle.script.specs.Answer.{noAnswer}
+use Rattle.script.specs.declared.reading.Line.{Line}
+use Rattle.script.specs.declared.reading.Line.the-variants.{Readable, Unreadable}
+use Rattle.bench.specs.declared.Rest.{Rest}
+use Rattle.bench.specs.declared.Rest.the-variants.{All, Unread}
+use Rattle.bench.specs.declared.Aim.{Aim}
+use Rattle.bench.specs.declared.Aim.the-variants.{One, Others}
+
+-- a line that can be read is a step of the part; one that can't is no. 8, and leaves all
+abbrev pub performed : Part → List ℕ → Line → PartStepped
+performed p m (Readable s) = partStep p m s
+performed p m Unreadable = record { part = p; answer = noAnswer }
+
+abbrev pub performedBytes : Part → List ℕ → Line → List ℕ
+performedBytes p m (Readable s) = partBytes p m s
+performedBytes p m Unreadable = m
+
+-- ---- the same by whom the line concerns, at a part and a memory that no. 9 does not refuse (`aimed-performed`, Laws/Performing.antt)
+
+abbrev pub aimAt : Target → Aim
+aimAt (OneTarget c op) = One c op
+aimAt (AllTarget t) = Others (All t)
+
+abbrev pub aimOf : Line → Aim
+aimOf (Readable s) = aimAt (targetOf s)
+aimOf Unreadable = Others Unread
+
+abbrev pub InAim : Aim → Type 0
+InAim (One c op) = c < 3
+InAim (Others t) = Unit {0}
+
+abbrev pub performedRest : Part → Rest → PartStepped
+performedRest p (All t) = allServed p t
+performedRest p Unread = record { part = p; answer = noAnswer }
+
+abbrev pub restBytes : Part → List ℕ → Rest → List ℕ
+restBytes p m (All t) = allStored p m t
+restBytes p m Unread = m
+
+abbrev pub aimed : Part → List ℕ → Aim → PartStepped
+aimed p m (One c op) = oneStep p m c op
+aimed p m (Others t) = performedRest p t
+
+abbrev pub aimedBytes : Part → List ℕ → Aim → List ℕ
+aimedBytes p m (One c op) = oneBytes p m c op
+aimedBytes p m (Others t) = restBytes p m t
+
+-- ---- the part and the memory that lines lead to, from the part p and the memory m
+pub data Led (p : Part) (m : List ℕ) : Part → List ℕ → Type 0 where
+  none : Led p m p m
+  more : (q : Part) (n : List ℕ) (l : Line) → Led p m q n → Led p m (performed q n l .part) (performedBytes q n l)
+
+-- they are those, and no. 9 does not refuse them
+pub record Follows (p : Part) (m : List ℕ) (q : Part) (n : List ℕ) : Type 0 where
+  pub whole : Whole q n
+  pub led : Led p m q n

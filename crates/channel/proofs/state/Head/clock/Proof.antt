@@ -1,0 +1,13 @@
+-- `channel::state::Head::clock` meets its contract.
+use borrow.Author.Needs.{needs}
+use Rattle.channel.proofs.state.Head.clock.Statement.{statement}
+use Rattle.channel.proofs.state.Head.clock.Tie as tie
+
+pub clock-spec : {M : Type 1} → statement M
+clock-spec =
+    tie.close
+    (tie.spec
+    (λ c. search needs)
+    (λ c. λ κs. search needs)
+    (λ c. λ κs. search needs)
+    (λ c. rw (c .act .ensures, c .before .to-phase .ensures)))

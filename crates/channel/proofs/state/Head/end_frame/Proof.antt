@@ -1,0 +1,13 @@
+-- `channel::state::Head::end_frame` meets its contract.
+use borrow.Author.Needs.{needs}
+use Rattle.channel.proofs.state.Head.end_frame.Statement.{statement}
+use Rattle.channel.proofs.state.Head.end_frame.Tie as tie
+
+pub end-frame-spec : {M : Type 1} → statement M
+end-frame-spec =
+    tie.close
+    (tie.spec
+    (λ c. λ κs. search needs)
+    (λ c. λ κs. search needs)
+    (λ c. λ κs. search needs)
+    (λ c. rw (c .end-by .ensures, c .before .ends .ensures, c .before .before .rest .ensures)))

@@ -1,0 +1,13 @@
+-- `channel::state::Head::fail` meets its contract.
+use borrow.Author.Needs.{needs}
+use Rattle.channel.proofs.state.Head.fail.Statement.{statement}
+use Rattle.channel.proofs.state.Head.fail.Tie as tie
+
+pub fail-spec : {M : Type 1} → statement M
+fail-spec =
+    tie.close
+    (tie.spec
+    (λ c. λ κs. search needs)
+    (λ c. λ κs. search needs)
+    (λ c. λ κs. search needs)
+    (λ c. rw (c .act .ensures, c .before .with-walk .ensures, c .before .before .note-error .ensures)))

@@ -1,0 +1,13 @@
+-- `channel::state::Head::fault` meets its contract.
+use borrow.Author.Needs.{needs}
+use Rattle.channel.proofs.state.Head.fault.Statement.{statement}
+use Rattle.channel.proofs.state.Head.fault.Tie as tie
+
+pub fault-spec : {M : Type 1} → statement M
+fault-spec =
+    tie.close
+    (tie.spec
+    (λ c. λ κs. search needs)
+    (λ c. λ κs. search needs)
+    (λ c. λ κs. search needs)
+    (λ c. rw (c .to-idle .ensures, c .before .with-flags .ensures, c .before .before .fault-flags .ensures)))

@@ -1,0 +1,15 @@
+-- `channel::state::Head::finish` meets its contract.
+use Rattle.channel.specs.Wires.{finished}
+use borrow.Author.Needs.{needs}
+use lib.ListN.{set}
+use Rattle.channel.proofs.state.Head.finish.Statement.{statement}
+use Rattle.channel.proofs.state.Head.finish.Tie as tie
+
+pub finish-spec : {M : Type 1} → statement M
+unfolding finished
+finish-spec =
+    tie.close
+    (tie.spec
+    (λ c. search needs)
+    (λ c. λ κs. search needs)
+    (λ c. λ k set. c .onward .ensures k set))

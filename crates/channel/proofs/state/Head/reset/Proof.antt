@@ -1,0 +1,20 @@
+-- `channel::state::Head::reset` meets its contract.
+use Prim.Native.Nat.{ℕ}
+use Rattle.channel.specs.State.{zeros}
+use borrow.Author.Needs.{needs}
+use lib.ListN.{replicate}
+use mathlib.Core.Path.{_∙_, ap}
+use Rattle.channel.proofs.state.Head.reset.Statement.{statement}
+use Rattle.channel.proofs.state.Head.reset.Tie as tie
+
+pub reset-spec : {M : Type 1} → statement M
+unfolding zeros
+reset-spec =
+    tie.close
+    (tie.spec
+    (λ c. λ κs. search needs)
+    (λ c. λ κs. search needs)
+    (λ c. λ κs. search needs)
+    (λ c. λ κs. search needs)
+    (λ c. search needs)
+    (λ c. (rw (c .refuse .ensures, c .before .new .ensures, c .before .before .fresh-settings .ensures), c .before .before .before .before .before .before .before .before .before .wipe .ensures ∙ ap (λ (n : ℕ). replicate n 0) (c .before .before .before .before .before .before .before .before .before .before .before .before .pre))))

@@ -1,0 +1,15 @@
+-- `channel::state::Head::write_sla` meets its contract.
+use borrow.Author.Needs.{needs}
+use mathlib.Core.Path.{refl}
+use Rattle.channel.proofs.state.Head.write_sla.Statement.{statement}
+use Rattle.channel.proofs.state.Head.write_sla.Tie as tie
+
+pub write-sla-spec : {M : Type 1} → statement M
+write-sla-spec =
+    tie.close
+    (tie.spec
+    (λ c. search needs)
+    (λ c. search needs)
+    (λ c. λ κs. search needs)
+    (λ c. λ κs. search needs)
+    (λ c. (rw (c .refuse .ensures, c .before .sla-at .ensures), refl)))
