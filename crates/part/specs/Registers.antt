@@ -18,6 +18,17 @@ use Rattle.part.specs.State.{freshPart, wiped, refusedPart, repliedPart,
 unfoldable pub unmaskedOf : Bool → ℕ → ℕ → Bool
 unmaskedOf cause mask w = if cause then not (bitOf mask w) else false
 
+-- no CHSTATUS bit set; such a channel is not pending (`calm-pending`, Laws/Calm.antt)
+unfoldable pub calmOf : Flags → Bool
+calmOf f =
+    if f .sd then false else
+    if f .fld then false else
+    if f .we then false else
+    if f .re then false else
+    if f .dae then false else
+    if f .cle then false else
+    if f .sse then false else not (f .fe)
+
 -- a channel is pending: some CHSTATUS bit set whose INTMSK bit is 0
 unfoldable pub pendingOf : Flags → ℕ → Bool
 pendingOf f mask =

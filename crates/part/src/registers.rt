@@ -3,7 +3,7 @@ ghost use mathlib.Core.Path.{_≡_};
 ghost use Prim.Native.Nat.{_+_, _*_, _/_, _%_, _<_};
 ghost use lib.ListN.{length};
 ghost use Rattle.part.specs.State.{freshPart, wiped, refusedPart};
-ghost use Rattle.part.specs.Registers.{unmaskedOf, pendingOf, pendingAt, activeAt, interruptOf, ctrlstatusOf, ctrlKept, ctrlRead, ctrlWritten, ctrlpresetOf, ctrlPut, ctrlStore};
+ghost use Rattle.part.specs.Registers.{unmaskedOf, calmOf, pendingOf, pendingAt, activeAt, interruptOf, ctrlstatusOf, ctrlKept, ctrlRead, ctrlWritten, ctrlpresetOf, ctrlPut, ctrlStore};
 use crate::map::Ctrl;
 use crate::state::Part;
 use crate::state::PartStepped;
@@ -19,8 +19,36 @@ fn unmasked(cause: bool, mask: u8, w: u8) -> bool
     if cause { !bit(mask, w) } else { false }
 }
 
-// Whether a channel with these flags and this INTMSK is pending.
-fn pending(f: Flags, mask: u8) -> bool
+// Whether no cause is set, masked or not.
+fn calm(f: Flags) -> bool
+    ensures { λ r. ⌜ r ≡ calmOf f ⌝ }
+{
+    if f.sd {
+        return false;
+    }
+    if f.fld {
+        return false;
+    }
+    if f.we {
+        return false;
+    }
+    if f.re {
+        return false;
+    }
+    if f.dae {
+        return false;
+    }
+    if f.cle {
+        return false;
+    }
+    if f.sse {
+        return false;
+    }
+    !f.fe
+}
+
+// Whether some cause is set whose INTMSK bit is 0.
+fn some_unmasked(f: Flags, mask: u8) -> bool
     ensures { λ r. ⌜ r ≡ pendingOf f mask ⌝ }
 {
     if unmasked(f.sd, mask, 0x80) {
@@ -45,6 +73,16 @@ fn pending(f: Flags, mask: u8) -> bool
         return true;
     }
     unmasked(f.fe, mask, 0x01)
+}
+
+// Whether a channel with these flags and this INTMSK is pending. Most often none is set, and that is told sooner.
+fn pending(f: Flags, mask: u8) -> bool
+    ensures { λ r. ⌜ r ≡ pendingOf f mask ⌝ }
+{
+    if calm(f) {
+        return false;
+    }
+    some_unmasked(f, mask)
 }
 
 fn is_ctrlpreset(reg: Ctrl) -> bool

@@ -1,28 +1,15 @@
 -- `part::registers::pending` meets its contract.
-use Rattle.laws.specs.Cases.{cases}
-use Rattle.part.specs.Registers.{pendingOf}
+use Rattle.part.specs.Laws.Calm.{calm-pending}
 use borrow.Author.Needs.{needs}
+use mathlib.Core.Path.{_∙_, sym}
 use Rattle.part.proofs.registers.pending.Statement.{statement}
 use Rattle.part.proofs.registers.pending.Tie as tie
 
 pub pending-spec : {M : Type 1} → statement M
-unfolding pendingOf
 pending-spec =
     tie.close
     (tie.spec
     (λ c. λ κs. search needs)
-    (λ c. search cases depth 12)
+    (λ c. sym (calm-pending _ _ (sym (c .before .calm .ensures) ∙ c .if1 .taken)))
     (λ c. λ κs. search needs)
-    (λ c. search cases depth 12)
-    (λ c. λ κs. search needs)
-    (λ c. search cases depth 12)
-    (λ c. λ κs. search needs)
-    (λ c. search cases depth 12)
-    (λ c. λ κs. search needs)
-    (λ c. search cases depth 12)
-    (λ c. λ κs. search needs)
-    (λ c. search cases depth 12)
-    (λ c. λ κs. search needs)
-    (λ c. search cases depth 12)
-    (λ c. λ κs. search needs)
-    (λ c. search cases depth 12))
+    (λ c. c .some-unmasked .ensures))
