@@ -1,6 +1,6 @@
 // The parts of a channel's record.
 
-// Where a sequence on the wires stands. The transaction is kept in Address, Sending and Receiving only, as a byte, so that the record has no gap.
+// Where a sequence on the wires stands. The transaction is kept in Address, Sending and Receiving only, as a byte, next to the phase.
 pub enum Phase {
     Idle,
     Address(u8),
