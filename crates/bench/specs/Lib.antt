@@ -1,3 +1,5 @@
-pub mod Keeping
+pub mod Lines
 pub mod Performing
+pub mod Answering
+pub mod Blocks
 pub mod Laws

@@ -6,14 +6,14 @@ use Rattle.part.specs.declared.state.PartStepped.{PartStepped}
 use Rattle.part.specs.declared.map.Target.{Target}
 use Rattle.part.specs.declared.map.Target.the-variants.{One as OneTarget, All as AllTarget}
 use Rattle.part.specs.Map.{targetOf}
-use Rattle.part.specs.Step.{oneStep, oneBytes, allServed, allStored, partStep, partBytes, Whole}
+use Rattle.part.specs.Step.{oneStep, oneBytes, allServed, allStored, partStep, partBytes}
 use Rattle.script.specs.Answer.{noAnswer}
 use Rattle.script.specs.declared.reading.Line.{Line}
 use Rattle.script.specs.declared.reading.Line.the-variants.{Readable, Unreadable}
-use Rattle.bench.specs.declared.Rest.{Rest}
-use Rattle.bench.specs.declared.Rest.the-variants.{All, Unread}
-use Rattle.bench.specs.declared.Aim.{Aim}
-use Rattle.bench.specs.declared.Aim.the-variants.{One, Others}
+use Rattle.bench.specs.declared.answering.Rest.{Rest}
+use Rattle.bench.specs.declared.answering.Rest.the-variants.{All, Unread}
+use Rattle.bench.specs.declared.answering.Aim.{Aim}
+use Rattle.bench.specs.declared.answering.Aim.the-variants.{One, Others}
 
 -- a line that can be read is a step of the part; one that can't is no. 8, and leaves all
 abbrev pub performed : Part → List ℕ → Line → PartStepped
@@ -53,13 +53,3 @@ aimed p m (Others t) = performedRest p t
 abbrev pub aimedBytes : Part → List ℕ → Aim → List ℕ
 aimedBytes p m (One c op) = oneBytes p m c op
 aimedBytes p m (Others t) = restBytes p m t
-
--- ---- the part and the memory that lines lead to, from the part p and the memory m
-pub data Led (p : Part) (m : List ℕ) : Part → List ℕ → Type 0 where
-  none : Led p m p m
-  more : (q : Part) (n : List ℕ) (l : Line) → Led p m q n → Led p m (performed q n l .part) (performedBytes q n l)
-
--- they are those, and no. 9 does not refuse them
-pub record Follows (p : Part) (m : List ℕ) (q : Part) (n : List ℕ) : Type 0 where
-  pub whole : Whole q n
-  pub led : Led p m q n

@@ -1,7 +1,7 @@
 // The record of a channel, what a step answers, and the changes of one part of the record.
 ghost use mathlib.Core.Path.{_≡_};
 ghost use Rattle.channel.specs.State.{fresh, refused};
-ghost use Rattle.channel.specs.Head.{freshHead, joined, told, headWalk, headFlags, headKey};
+ghost use Rattle.channel.specs.Head.{freshHead, headOf, joined, told, headWalk, headFlags, headKey};
 use rules::Flags;
 use rules::Ptrs;
 use rules::Regs;
@@ -23,12 +23,12 @@ pub struct Channel {
     pub key: bool,
 }
 
-// A channel without its tables. A step takes it by value and has the tables lent, so that no table is copied from call to call.
+// A channel without its tables. A step takes it by value and has the tables lent, so that no table is copied from call to call. The order leaves no gap.
 pub struct Head {
-    pub regs: Regs,
     pub flags: Flags,
     pub ptrs: Ptrs,
     pub walk: Walk,
+    pub regs: Regs,
     pub key: bool,
 }
 
@@ -58,6 +58,23 @@ impl Channel {
     {
         let h = Head::new();
         h.join([0; 64], [0; 65], [0; 64], [0; 64], fresh_settings())
+    }
+
+    // All of the channel but its tables.
+    pub fn head(self) -> Head
+        ensures { λ r. ⌜ r ≡ headOf self ⌝ }
+    {
+        let flags = self.flags;
+        let ptrs = self.ptrs;
+        let walk = self.walk;
+        let regs = self.regs;
+        Head {
+            flags,
+            ptrs,
+            walk,
+            regs,
+            key: self.key,
+        }
     }
 
     // The record with an answer's number and nothing else.

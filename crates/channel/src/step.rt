@@ -140,17 +140,7 @@ impl Channel {
         let mut status = self.status;
         let mut counts = self.bytecount;
         let mut settings = self.settings;
-        let regs = self.regs;
-        let flags = self.flags;
-        let ptrs = self.ptrs;
-        let walk = self.walk;
-        let h = Head {
-            regs,
-            flags,
-            ptrs,
-            walk,
-            key: self.key,
-        };
+        let h = self.head();
         let r = h.serve_lent(
             &mut sla,
             &mut lens,

@@ -477,7 +477,10 @@ impl Head {
             Turn::NackAddress(n) => self.nack(sla, lens, status, n, 0x04),
             Turn::NackSending(n) => self.nack(sla, lens, status, n, 0x08),
             Turn::Receive(n, b) => self.receive(sla, lens, status, counts, mem, n, b),
-            Turn::Begin => self.begin(sla, lens, status, counts, settings),
+            Turn::Begin => {
+                let h = self.to_phase(Phase::Idle);
+                h.begin(sla, lens, status, counts, settings)
+            }
             Turn::Late => self.be_late().refuse(0),
             Turn::End => self.end_frame(settings[0]).refuse(0),
             Turn::Fault(f) => self.fault(f).refuse(0),
@@ -515,19 +518,10 @@ impl Channel {
         let mut status = self.status;
         let mut counts = self.bytecount;
         let settings = self.settings;
-        let regs = self.regs;
-        let flags = self.flags;
-        let ptrs = self.ptrs;
         let walk = self.walk;
         let p = walk.phase;
-        let b = sequence::edge_beat(p, regs.te, regs.tp, edge);
-        let h = Head {
-            regs,
-            flags,
-            ptrs,
-            walk,
-            key: self.key,
-        };
+        let b = sequence::edge_beat(p, self.regs.te, self.regs.tp, edge);
+        let h = self.head();
         let r = h.beat(&sla, &lens, &mut status, &mut counts, &settings, b);
         let g = r.head;
         let answer = r.answer;

@@ -48,11 +48,14 @@ abbrev pub activeAt : Part → ℕ → Bool
 activeAt p c = activeOf (chan p c .walk .phase)
 
 -- INT is pulled exactly when BE is set and bit 7 of CTRLINTMSK is 0, or a channel is pending and its CTRLINTMSK bit is 0
+unfoldable pub pulledBy : Bool → ℕ → Bool → Bool → Bool → Bool
+pulledBy be mask first second third =
+    if unmaskedOf be mask 0x80 then true else
+    if unmaskedOf first mask 0x01 then true else
+    if unmaskedOf second mask 0x02 then true else unmaskedOf third mask 0x04
+
 unfoldable pub interruptOf : Part → Bool
-interruptOf p =
-    if unmaskedOf (p .be) (p .mask) 0x80 then true else
-    if unmaskedOf (pendingAt p 0) (p .mask) 0x01 then true else
-    if unmaskedOf (pendingAt p 1) (p .mask) 0x02 then true else unmaskedOf (pendingAt p 2) (p .mask) 0x04
+interruptOf p = pulledBy (p .be) (p .mask) (pendingAt p 0) (pendingAt p 1) (pendingAt p 2)
 
 -- CTRLSTATUS: 7 BE, 5 to 3 active, 2 to 0 channel pending
 unfoldable pub ctrlstatusOf : Part → ℕ

@@ -1,6 +1,7 @@
 // The PCA9663: three channels over one lent memory.
 mod map;
 mod registers;
+mod rows;
 mod state;
 mod step;
 
@@ -8,6 +9,7 @@ pub use map::Common;
 pub use map::Step;
 pub use map::Target;
 pub use map::target_of;
+pub use rows::Heads;
 pub use state::Act;
 pub use state::Part;
 pub use state::PartAnswer;

@@ -3,7 +3,7 @@ ghost use mathlib.Core.Path.{_≡_};
 ghost use Prim.Native.Nat.{_+_, _*_, _/_, _%_, _<_};
 ghost use lib.ListN.{length};
 ghost use Rattle.part.specs.State.{freshPart, wiped, refusedPart};
-ghost use Rattle.part.specs.Registers.{unmaskedOf, calmOf, pendingOf, pendingAt, activeAt, interruptOf, ctrlstatusOf, ctrlKept, ctrlRead, ctrlWritten, ctrlpresetOf, ctrlPut, ctrlStore};
+ghost use Rattle.part.specs.Registers.{unmaskedOf, calmOf, pendingOf, pendingAt, activeAt, interruptOf, pulledBy, ctrlstatusOf, ctrlKept, ctrlRead, ctrlWritten, ctrlpresetOf, ctrlPut, ctrlStore};
 use crate::map::Ctrl;
 use crate::state::Part;
 use crate::state::PartStepped;
@@ -76,13 +76,29 @@ fn some_unmasked(f: Flags, mask: u8) -> bool
 }
 
 // Whether a channel with these flags and this INTMSK is pending. Most often none is set, and that is told sooner.
-fn pending(f: Flags, mask: u8) -> bool
+pub(crate) fn pending(f: Flags, mask: u8) -> bool
     ensures { λ r. ⌜ r ≡ pendingOf f mask ⌝ }
 {
     if calm(f) {
         return false;
     }
     some_unmasked(f, mask)
+}
+
+// Whether INT is pulled, by BE, CTRLINTMSK and the channels that are pending.
+pub(crate) fn pulled(be: bool, mask: u8, first: bool, second: bool, third: bool) -> bool
+    ensures { λ r. ⌜ r ≡ pulledBy be mask first second third ⌝ }
+{
+    if unmasked(be, mask, 0x80) {
+        return true;
+    }
+    if unmasked(first, mask, 0x01) {
+        return true;
+    }
+    if unmasked(second, mask, 0x02) {
+        return true;
+    }
+    unmasked(third, mask, 0x04)
 }
 
 fn is_ctrlpreset(reg: Ctrl) -> bool
@@ -134,28 +150,17 @@ impl Part {
         rules::active(p)
     }
 
-    // Whether channel c is pending and its CTRLINTMSK bit, of weight w, is 0.
-    fn pulls(self, c: usize, w: u8) -> bool
-        requires { ⌜ (c < 3) × (0 < w) ⌝ }
-        ensures { λ r. ⌜ r ≡ unmaskedOf (pendingAt self c) (self .mask) w ⌝ }
-    {
-        unmasked(self.pending_at(c), self.mask, w)
-    }
-
     // Whether INT is pulled.
     pub fn interrupt(self) -> bool
         ensures { λ r. ⌜ r ≡ interruptOf self ⌝ }
     {
-        if unmasked(self.be, self.mask, 0x80) {
-            return true;
-        }
-        if self.pulls(0, 0x01) {
-            return true;
-        }
-        if self.pulls(1, 0x02) {
-            return true;
-        }
-        self.pulls(2, 0x04)
+        pulled(
+            self.be,
+            self.mask,
+            self.pending_at(0),
+            self.pending_at(1),
+            self.pending_at(2),
+        )
     }
 
     fn ctrlstatus(self) -> u8

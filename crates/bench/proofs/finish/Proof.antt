@@ -1,5 +1,4 @@
 -- `bench::finish` meets its contract.
-use Rattle.bench.specs.Performing.Led.{none}
 use borrow.Author.Needs.{needs}
 use Rattle.bench.proofs.finish.Statement.{statement}
 use Rattle.bench.proofs.finish.Tie as tie
@@ -15,6 +14,6 @@ finish-spec =
     (λ c. search needs)
     (λ c. search needs)
     (λ c. search needs)
-    (λ c. rw (c .stop .ensures) (c .before .before .before .before .before .before .before .answer-from .ensures))
+    (λ c. rw (c .stop .ensures) (c .before .before .before .before .before .before .before .answer-from .ensures .whole))
     (λ c. λ κs. search needs)
-    (λ c. rw (c .stop2 .ensures) (record { whole = c .before .before .before .before .before .before .before .pre .0; led = none })))
+    (λ c. rw (c .stop2 .ensures) (c .before .before .before .before .before .before .before .pre .0)))

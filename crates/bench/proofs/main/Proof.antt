@@ -29,6 +29,6 @@ main-spec =
     (λ c. λ κs. (c .before .before .before .before .before .loop .inv .2, c .before .before .before .before .before .loop .inv .0))
     (λ c. search needs)
     (λ c. search needs)
-    (λ c. (search needs, search needs, c .before .before .before .turn .ensures .whole))
+    (λ c. (search needs, search needs, c .before .before .before .turn .ensures))
     (λ c. search needs)
     (λ c. search needs))

@@ -1,21 +1,68 @@
--- A line that came in pieces is read as the whole line is.
-use Prim.Native.Nat.{ℕ, _+_, _<_, _≤_}
+-- Where a line ends, and that one which came in pieces is read as the whole line is.
+use Prim.Native.Nat.{ℕ, _+_, _-_, _<_, _≤_}
 use mathlib.Core.Bool.{Bool, true, false}
 use mathlib.Core.List.{List, [], _∷_, _++_, append-nil, append-assoc}
 use mathlib.Core.Path.{_≡_, refl, sym, _∙_, ap, subst}
 use native.Mathlib.Numerals.{add-one}
 use native.Mathlib.Omega.{arith}
 use borrow.Author.Tests.{ltb-true, ltb-false, leb-true, leb-false}
-use lib.Dec.{leb, ltb}
-use lib.ListN.{length, take, set, length-append, length-take, length-set, length-replicate}
-use lib.Seq.{take-all, take-append-le, take-suc-set}
+use lib.Dec.{eqb, leb, ltb}
+use lib.ListN.{length, getD, take, drop, set, length-append, length-drop, length-take, length-set, length-replicate, drop-of-length-le}
+use lib.Seq.{sets, sets-eq, drop-append-seam, drop-cons, length-take-le, take-all, take-append-add, take-append-le, take-suc-set}
+use Rattle.laws.specs.Pick.{if_then_else_}
 use Rattle.laws.specs.Cases.{pick-holds}
 use Rattle.script.specs.Grammar.{lineOf}
 use Rattle.script.specs.Laws.Grammar.{first-twelve}
-use Rattle.bench.specs.declared.Start.{Start}
-use Rattle.bench.specs.Keeping.{noLine, withByte, lengthened, keptOf}
+use Rattle.bench.specs.declared.lines.Start.{Start}
+use Rattle.bench.specs.Lines.{firstLf, lineEnd, noLine, withByte, lengthened, keptOf}
 
--- what is kept of the bytes l: the first twelve
+-- ---- the end of a line
+first-lf-in : (l : List ℕ) → firstLf l ≤ length l
+first-lf-in [] = omega arith
+first-lf-in (b ∷ l) = pick-holds (λ (n : ℕ). n ≤ length (b ∷ l)) (eqb b 10) (λ _. omega arith) (λ _. let h = first-lf-in l in omega (arith, h))
+
+module _ (block : List ℕ) (from : ℕ) where
+  pub end-after : from ≤ lineEnd block from
+  unfolding lineEnd
+  end-after = omega arith
+
+  pub end-in : from ≤ length block → lineEnd block from ≤ length block
+  unfolding lineEnd
+  end-in h = let k = first-lf-in (drop from block) in let n = length-drop from block in omega (arith, h, k, n)
+
+  pub end-last : length block ≤ from → lineEnd block from ≡ from
+  unfolding lineEnd
+  end-last h = let e : firstLf (drop from block) ≡ 0 = ap firstLf (drop-of-length-le block h) in omega (arith, e)
+
+  pub end-here : from < length block → eqb (getD block from 0) 10 ≡ true → lineEnd block from ≡ from
+  unfolding lineEnd if_then_else_
+  end-here h t = let e : firstLf (drop from block) ≡ 0 = ap firstLf (drop-cons block from 0 h) ∙ rw t in omega (arith, e)
+
+  pub end-later : from < length block → eqb (getD block from 0) 10 ≡ false → lineEnd block from ≡ lineEnd block (from + 1)
+  unfolding lineEnd if_then_else_
+  end-later h t =
+      let n = add-one from in
+      let e : firstLf (drop from block) ≡ firstLf (drop (from + 1) block) + 1 = ap firstLf (drop-cons block from 0 h) ∙ rw (t, n) in
+      omega (arith, e)
+
+-- ---- n bytes right before place 12, and those that follow it
+pub put-before : (k block : List ℕ) (n till : ℕ) → length k ≡ n → n ≤ 12 → 12 ≤ till → till ≤ length block
+    → take (till - (12 - n)) (drop (12 - n) (sets block (12 - n) k)) ≡ k ++ take (till - 12) (drop 12 block)
+put-before k block n till e h i j =
+    let a = 12 - n in
+    let twelve : a + length k ≡ 12 = omega (arith, e, h) in
+    let front : length (take a block) ≡ a = length-take-le a block (omega (arith, i, j)) in
+    let rest = k ++ drop 12 block in
+    let put : sets block a k ≡ take a block ++ rest =
+    sets-eq k block a (omega (arith, twelve, i, j))
+    ∙ append-assoc (take a block) k (drop (a + length k) block)
+    ∙ ap (λ (x : ℕ). take a block ++ (k ++ drop x block)) twelve in
+    let behind : drop a (sets block a k) ≡ rest =
+    ap (drop a) put ∙ ap (λ (x : ℕ). drop x (take a block ++ rest)) (sym front) ∙ drop-append-seam (take a block) rest in
+    let size : till - a ≡ length k + (till - 12) = omega (arith, e, h, i) in
+    ap (take (till - a)) behind ∙ ap (λ (x : ℕ). take x rest) size ∙ take-append-add k (drop 12 block) (till - 12)
+
+-- ---- what is kept of the bytes l: the first twelve
 record Keeps (s : Start) (l : List ℕ) : Type 0 where
   count : s .len ≡ length (take 12 l)
   room : length (s .bytes) ≡ 12

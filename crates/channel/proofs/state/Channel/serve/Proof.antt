@@ -8,6 +8,7 @@ serve-spec =
     tie.close
     (tie.spec
     (λ c. λ κs. search needs)
+    (λ c. λ κs. rw (c .before .before .before .before .before .before .head .ensures) (c .before .before .before .before .before .before .before .before .before .before .before .before .before .pre))
     (λ c. λ κs. search needs)
     (λ c. search needs)
-    (λ c. (rw (c .join .ensures) (c .before .before .before .before .before .serve-lent .ensures .0), c .before .before .before .before .before .serve-lent .ensures .1)))
+    (λ c. (rw (c .join .ensures) (rw (c .before .before .before .before .before .before .before .before .before .before .before .before .head .ensures) at (c .before .before .before .before .before .serve-lent .ensures .0)), rw (c .before .before .before .before .before .before .before .before .before .before .before .before .head .ensures) at (c .before .before .before .before .before .serve-lent .ensures .1))))

@@ -11,6 +11,7 @@ trigger-spec =
     tie.close
     (tie.spec
     (λ c. λ κs. search needs)
-    (λ c. λ κs. range-count (c .before .before .before .before .before .before .before .before .before .before .before .before .before .before .before .args .self) (c .before .before .before .before .before .before .before .before .before .before .before .before .before .before .before .pre))
     (λ c. λ κs. search needs)
-    (λ c. rw (c .join .ensures) (rw (← c .before .before .before .before .before .before .before .before .before .edge-beat .ensures) (c .before .before .before .beat .ensures))))
+    (λ c. λ κs. range-count (c .before .before .before .before .before .before .before .before .before .before .before .before .before .args .self) (c .before .before .before .before .before .before .before .before .before .before .before .before .before .pre))
+    (λ c. λ κs. search needs)
+    (λ c. rw (c .join .ensures) (rw (← c .before .before .before .before .before .before .before .before .before .before .edge-beat .ensures) (rw (c .before .before .before .before .before .before .before .before .before .head .ensures) at (c .before .before .before .beat .ensures)))))

@@ -1,5 +1,4 @@
 -- `part::state::Part::interrupt` meets its contract.
-use Rattle.laws.specs.Cases.{cases}
 use Rattle.part.specs.Registers.{interruptOf}
 use borrow.Author.Needs.{needs}
 use Rattle.part.proofs.state.Part.interrupt.Statement.{statement}
@@ -11,10 +10,7 @@ interrupt-spec =
     tie.close
     (tie.spec
     (λ c. λ κs. search needs)
-    (λ c. search cases depth 12)
     (λ c. λ κs. search needs)
-    (λ c. search cases depth 12)
     (λ c. λ κs. search needs)
-    (λ c. search cases depth 12)
     (λ c. λ κs. search needs)
-    (λ c. search cases depth 12))
+    (λ c. rw (c .pulled .ensures, c .before .before .before .pending-at .ensures, c .before .before .pending-at2 .ensures, c .before .pending-at3 .ensures)))

@@ -1,0 +1,15 @@
+-- `bench::answering::next_number` meets its contract.
+use Rattle.bench.specs.Answering.{nextOf}
+use Rattle.laws.specs.Cases.{cases}
+use borrow.Author.Needs.{needs}
+use Rattle.bench.proofs.answering.next_number.Statement.{statement}
+use Rattle.bench.proofs.answering.next_number.Tie as tie
+
+pub next-number-spec : {M : Type 1} → statement M
+unfolding nextOf
+next-number-spec =
+    tie.close
+    (tie.spec
+    (λ c. search cases depth 12)
+    (λ c. search needs)
+    (λ c. search cases depth 12))

@@ -1,0 +1,31 @@
+-- `bench::lines::line_end` meets its contract: until the first LF the end of the line stays the same.
+use Prim.Native.Nat.{_-_, _≤_}
+use Rattle.bench.specs.Laws.Lines.{end-here, end-last, end-later}
+use Rattle.bench.specs.Lines.{lineEnd}
+use Rattle.laws.specs.Cases.{cases}
+use borrow.Author.Needs.{needs}
+use borrow.Author.Tests.{eq-eqb}
+use lib.ListN.{getD, length}
+use mathlib.Core.Path.{_∙_, _≡_, refl, sym}
+use Rattle.bench.proofs.lines.line_end.Statement.{statement}
+use Rattle.bench.proofs.lines.line_end.Tie as tie
+
+abbrev Inv-loop : tie.InvT-loop
+Inv-loop block from i₀ i = (i ≤ length block) × (lineEnd block from ≡ lineEnd block i)
+
+abbrev μ-loop : tie.MeasureT-loop
+μ-loop block from i₀ i = length block - i
+
+pub line-end-spec : {M : Type 1} → statement M
+line-end-spec =
+    tie.close
+    (tie.spec
+    Inv-loop
+    μ-loop
+    (λ c. (search needs, refl))
+    (λ c. search needs)
+    (λ c. let i = c .before .before .before .loop .i in sym (c .before .before .before .loop .inv .1 ∙ end-here (c .before .before .before .before .args .block .now) i (search needs) (eq-eqb (getD (c .before .before .before .before .args .block .now) i 0) 10 (search needs))))
+    (λ c. search needs)
+    (λ c. search needs)
+    (λ c. let i = c .before .before .before .loop .i in (search needs, c .before .before .before .loop .inv .1 ∙ end-later (c .before .before .before .before .args .block .now) i (search needs) (search cases depth 12)))
+    (λ c. let i = c .before .loop .i in sym (c .before .loop .inv .1 ∙ end-last (c .before .before .args .block .now) i (search needs))))
