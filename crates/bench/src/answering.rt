@@ -147,7 +147,7 @@ pub(crate) fn answer_lines(s: Course, block: &[u8], mem: &mut [u8], out: &mut [u
             }
         }
         step = next_number(step);
-        at = script::write_answer(step, answer, heads.interrupt(), out, at);
+        at = script::write_answer(step, answer, heads.interrupt_level(), out, at);
         from = end + 1;
         end = line_end(block, from);
     }

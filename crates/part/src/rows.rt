@@ -111,7 +111,7 @@ impl Heads {
     }
 
     // Whether INT is pulled, whatever the tables.
-    pub fn interrupt(self) -> bool
+    pub fn interrupt_level(self) -> bool
         ensures { λ r. ⌜ Pulls self r ⌝ }
     {
         pulled(

@@ -10,7 +10,7 @@ use Rattle.channel.specs.declared.state.Headed.{Headed}
 use Rattle.channel.specs.declared.state.Stepped.{Stepped}
 use Rattle.channel.specs.declared.step.Op.{Op}
 use Rattle.sequence.specs.declared.wires.Edge.{Edge}
-use Rattle.channel.specs.Head.{joined, Writes}
+use Rattle.channel.specs.Head.{headOf, joined, Writes}
 use Rattle.channel.specs.Range.{inRange}
 use Rattle.channel.specs.State.{fresh}
 use Rattle.channel.specs.Step.{servedBy, servedStore, stepOf, bytesAfter}
@@ -24,6 +24,9 @@ in-range-once self = no-second (λ r h. h)
 -- ---- state.rt
 pub new-once : Once Channel (λ r. r ≡ fresh)
 new-once = no-second (λ r h. h)
+
+pub head-once : (self : Channel) → Once Head (λ r. r ≡ headOf self)
+head-once self = no-second (λ r h. h)
 
 pub join-once : (self : Head) (sla lens status counts settings : List ℕ) → Once Channel (λ r. r ≡ joined self sla lens status counts settings)
 join-once self sla lens status counts settings = no-second (λ r h. h)

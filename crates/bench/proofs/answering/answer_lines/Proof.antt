@@ -83,7 +83,7 @@ answer-lines-spec =
     (λ c. let t : hasRoom (c .before .before .before .before .before .before .before .before .before .before .before .before .before .loop .end) (length (c .before .before .before .before .before .before .before .before .before .before .before .before .before .before .before .before .before .before .before .before .before .before .before .before .before .args .block .now)) (c .before .before .before .before .before .before .before .before .before .before .before .before .before .loop .at) ≡ true = sym (c .before .before .before .before .before .before .before .before .before .before .before .before .has-room .ensures) ∙ c .before .before .before .before .before .before .before .before .before .before .before .if1 .taken in let b = room-in (c .before .before .before .before .before .before .before .before .before .before .before .before .before .loop .end) (length (c .before .before .before .before .before .before .before .before .before .before .before .before .before .before .before .before .before .before .before .before .before .before .before .before .before .args .block .now)) (c .before .before .before .before .before .before .before .before .before .before .before .before .before .loop .at) t in omega (arith, b, c .before .before .before .before .before .before .before .before .before .before .before .before .before .before .before .before .before .before .before .before .before .before .before .before .before .good .1 .0))
     (λ c. λ κs. let t : hasRoom (c .before .before .before .before .before .before .before .before .before .before .before .before .before .loop .end) (length (c .before .before .before .before .before .before .before .before .before .before .before .before .before .before .before .before .before .before .before .before .before .before .before .before .before .args .block .now)) (c .before .before .before .before .before .before .before .before .before .before .before .before .before .loop .at) ≡ true = sym (c .before .before .before .before .before .before .before .before .before .before .before .before .has-room .ensures) ∙ c .before .before .before .before .before .before .before .before .before .before .before .if1 .taken in let b = room-in (c .before .before .before .before .before .before .before .before .before .before .before .before .before .loop .end) (length (c .before .before .before .before .before .before .before .before .before .before .before .before .before .before .before .before .before .before .before .before .before .before .before .before .before .args .block .now)) (c .before .before .before .before .before .before .before .before .before .before .before .before .before .loop .at) t in omega (arith, b))
     (λ c. let t : hasRoom (c .before .before .before .before .before .before .before .before .before .before .before .before .before .before .loop .end) (length (c .before .before .before .before .before .before .before .before .before .before .before .before .before .before .before .before .before .before .before .before .before .before .before .before .before .before .args .block .now)) (c .before .before .before .before .before .before .before .before .before .before .before .before .before .before .loop .at) ≡ true = sym (c .before .before .before .before .before .before .before .before .before .before .before .before .before .has-room .ensures) ∙ c .before .before .before .before .before .before .before .before .before .before .before .before .if1 .taken in let b = room-in (c .before .before .before .before .before .before .before .before .before .before .before .before .before .before .loop .end) (length (c .before .before .before .before .before .before .before .before .before .before .before .before .before .before .before .before .before .before .before .before .before .before .before .before .before .before .args .block .now)) (c .before .before .before .before .before .before .before .before .before .before .before .before .before .before .loop .at) t in let a = end-after (c .before .before .before .before .before .before .before .before .before .before .before .before .before .before .before .before .before .before .before .before .before .before .before .before .before .before .args .block .now) (c .before .before .before .before .before .before .before .before .before .before .before .before .before .before .loop .from) in let e = c .before .before .before .before .before .before .before .before .before .before .before .before .before .before .loop .inv .1 .here in omega (arith, a, b, e))
-    (λ c. let t : hasRoom (c .before .before .before .before .before .before .before .before .before .before .before .before .before .before .loop .end) (length (c .before .before .before .before .before .before .before .before .before .before .before .before .before .before .before .before .before .before .before .before .before .before .before .before .before .before .args .block .now)) (c .before .before .before .before .before .before .before .before .before .before .before .before .before .before .loop .at) ≡ true = sym (c .before .before .before .before .before .before .before .before .before .before .before .before .before .has-room .ensures) ∙ c .before .before .before .before .before .before .before .before .before .before .before .before .if1 .taken in let v = c .before .before .before .before .before .before .before .before .before .before .before .before .before .before .loop .inv .1 in let j = c .before .before .before .before .before .before .before .match in let d = ⊎-elim {C = Does (v .part) (c .before .before .before .before .before .before .before .before .before .before .before .before .before .before .loop .mem) (c .before .before .before .before .before .before .before .before .before .before .read-line .result) (j .heads) (j .sla) (j .lens) (j .status) (j .counts) (j .settings) (j .answer) (j .mem)} (λ w. let i = w .1 .given .0 .0 in let q : i < 3 = rw (w .1 .given .1) at (c .before .before .before .before .before .before .before .before .before .aim-of .ensures .1) in let k : (4352 * i + 4352) - 4352 * i ≡ 4352 = add-sub-cancel-left _ _ in rw (w .17, w .18, w .19, w .20, w .21, w .22, w .23, w .24) (does-one (v .part) (c .before .before .before .before .before .before .before .before .before .before .before .before .before .before .loop .mem) (c .before .before .before .before .before .before .before .before .before .before .before .before .before .before .loop .heads) (c .before .before .before .before .before .before .before .before .before .before .before .before .before .before .loop .sla) (c .before .before .before .before .before .before .before .before .before .before .before .before .before .before .loop .lens) (c .before .before .before .before .before .before .before .before .before .before .before .before .before .before .loop .status) (c .before .before .before .before .before .before .before .before .before .before .before .before .before .before .loop .counts) (c .before .before .before .before .before .before .before .before .before .before .before .before .before .before .loop .settings) (v .spread) (v .whole) _ (c .before .before .before .before .before .before .before .before .before .before .read-line .result) (c .before .before .before .before .before .before .before .before .before .aim-of .ensures .0) i _ _ _ _ _ _ _ _ _ q (w .1 .given .1) (rw k at (w .10 .ensures .0)) (w .15 .ensures) (rw (w .10 .ensures .1, k, drop-drop 4352 (4352 * i))))) (λ w. rw (w .21, w .22, w .23, w .24, w .25, w .26, w .27, w .28) (does-rest (v .part) (c .before .before .before .before .before .before .before .before .before .before .before .before .before .before .loop .mem) (c .before .before .before .before .before .before .before .before .before .before .before .before .before .before .loop .heads) (c .before .before .before .before .before .before .before .before .before .before .before .before .before .before .loop .sla) (c .before .before .before .before .before .before .before .before .before .before .before .before .before .before .loop .lens) (c .before .before .before .before .before .before .before .before .before .before .before .before .before .before .loop .status) (c .before .before .before .before .before .before .before .before .before .before .before .before .before .before .loop .counts) (c .before .before .before .before .before .before .before .before .before .before .before .before .before .before .loop .settings) (v .spread) (v .whole) _ (c .before .before .before .before .before .before .before .before .before .before .read-line .result) (c .before .before .before .before .before .before .before .before .before .aim-of .ensures .0) _ _ _ _ _ _ _ _ _ (w .1 .given .1) (rw (w .8 .ensures) at (w .10 .ensures .0)) (rw (w .8 .ensures) at (w .10 .ensures .1)) (w .20 .ensures))) (j .came) in (put-length _ _ _ _ _ (c .before .before .before .write-answer .ensures) ∙ c .before .before .before .before .before .before .before .before .before .before .before .before .before .before .loop .inv .0, going-on (c .before .before .before .before .before .before .before .before .before .before .before .before .before .before .before .before .before .before .before .before .before .before .before .before .before .before .args .block .now) _ _ _ _ _ _ _ _ _ _ _ _ _ v (c .before .before .before .before .before .before .before .before .before .before .read-line .result) (j .heads) (j .sla) (j .lens) (j .status) (j .counts) (j .settings) (j .answer) (c .before .before .before .before .before .interrupt .result) _ _ _ _ _ _ t (c .before .before .before .before .before .before .before .before .before .before .read-line .ensures) d (c .before .before .before .before .before .before .next-number .ensures) (c .before .before .before .before .before .interrupt .ensures (j .sla) (j .lens) (j .status) (j .counts) (j .settings)) (c .before .before .before .write-answer .ensures) refl (c .line-end2 .ensures)))
+    (λ c. let t : hasRoom (c .before .before .before .before .before .before .before .before .before .before .before .before .before .before .loop .end) (length (c .before .before .before .before .before .before .before .before .before .before .before .before .before .before .before .before .before .before .before .before .before .before .before .before .before .before .args .block .now)) (c .before .before .before .before .before .before .before .before .before .before .before .before .before .before .loop .at) ≡ true = sym (c .before .before .before .before .before .before .before .before .before .before .before .before .before .has-room .ensures) ∙ c .before .before .before .before .before .before .before .before .before .before .before .before .if1 .taken in let v = c .before .before .before .before .before .before .before .before .before .before .before .before .before .before .loop .inv .1 in let j = c .before .before .before .before .before .before .before .match in let d = ⊎-elim {C = Does (v .part) (c .before .before .before .before .before .before .before .before .before .before .before .before .before .before .loop .mem) (c .before .before .before .before .before .before .before .before .before .before .read-line .result) (j .heads) (j .sla) (j .lens) (j .status) (j .counts) (j .settings) (j .answer) (j .mem)} (λ w. let i = w .1 .given .0 .0 in let q : i < 3 = rw (w .1 .given .1) at (c .before .before .before .before .before .before .before .before .before .aim-of .ensures .1) in let k : (4352 * i + 4352) - 4352 * i ≡ 4352 = add-sub-cancel-left _ _ in rw (w .17, w .18, w .19, w .20, w .21, w .22, w .23, w .24) (does-one (v .part) (c .before .before .before .before .before .before .before .before .before .before .before .before .before .before .loop .mem) (c .before .before .before .before .before .before .before .before .before .before .before .before .before .before .loop .heads) (c .before .before .before .before .before .before .before .before .before .before .before .before .before .before .loop .sla) (c .before .before .before .before .before .before .before .before .before .before .before .before .before .before .loop .lens) (c .before .before .before .before .before .before .before .before .before .before .before .before .before .before .loop .status) (c .before .before .before .before .before .before .before .before .before .before .before .before .before .before .loop .counts) (c .before .before .before .before .before .before .before .before .before .before .before .before .before .before .loop .settings) (v .spread) (v .whole) _ (c .before .before .before .before .before .before .before .before .before .before .read-line .result) (c .before .before .before .before .before .before .before .before .before .aim-of .ensures .0) i _ _ _ _ _ _ _ _ _ q (w .1 .given .1) (rw k at (w .10 .ensures .0)) (w .15 .ensures) (rw (w .10 .ensures .1, k, drop-drop 4352 (4352 * i))))) (λ w. rw (w .21, w .22, w .23, w .24, w .25, w .26, w .27, w .28) (does-rest (v .part) (c .before .before .before .before .before .before .before .before .before .before .before .before .before .before .loop .mem) (c .before .before .before .before .before .before .before .before .before .before .before .before .before .before .loop .heads) (c .before .before .before .before .before .before .before .before .before .before .before .before .before .before .loop .sla) (c .before .before .before .before .before .before .before .before .before .before .before .before .before .before .loop .lens) (c .before .before .before .before .before .before .before .before .before .before .before .before .before .before .loop .status) (c .before .before .before .before .before .before .before .before .before .before .before .before .before .before .loop .counts) (c .before .before .before .before .before .before .before .before .before .before .before .before .before .before .loop .settings) (v .spread) (v .whole) _ (c .before .before .before .before .before .before .before .before .before .before .read-line .result) (c .before .before .before .before .before .before .before .before .before .aim-of .ensures .0) _ _ _ _ _ _ _ _ _ (w .1 .given .1) (rw (w .8 .ensures) at (w .10 .ensures .0)) (rw (w .8 .ensures) at (w .10 .ensures .1)) (w .20 .ensures))) (j .came) in (put-length _ _ _ _ _ (c .before .before .before .write-answer .ensures) ∙ c .before .before .before .before .before .before .before .before .before .before .before .before .before .before .loop .inv .0, going-on (c .before .before .before .before .before .before .before .before .before .before .before .before .before .before .before .before .before .before .before .before .before .before .before .before .before .before .args .block .now) _ _ _ _ _ _ _ _ _ _ _ _ _ v (c .before .before .before .before .before .before .before .before .before .before .read-line .result) (j .heads) (j .sla) (j .lens) (j .status) (j .counts) (j .settings) (j .answer) (c .before .before .before .before .before .interrupt-level .result) _ _ _ _ _ _ t (c .before .before .before .before .before .before .before .before .before .before .read-line .ensures) d (c .before .before .before .before .before .before .next-number .ensures) (c .before .before .before .before .before .interrupt-level .ensures (j .sla) (j .lens) (j .status) (j .counts) (j .settings)) (c .before .before .before .write-answer .ensures) refl (c .line-end2 .ensures)))
     (λ c. λ κs. search needs)
     (λ c. c .before .before .before .before .before .before .before .before .loop .inv .1 .whole .whole ∙ sym (c .before .before .before .before .before .before .before .before .before .before .before .before .before .before .before .before .before .before .before .before .pre .0 .whole))
     (λ c. search needs)

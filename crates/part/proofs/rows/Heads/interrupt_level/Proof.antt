@@ -1,13 +1,13 @@
--- `part::rows::Heads::interrupt` meets its contract.
+-- `part::rows::Heads::interrupt_level` meets its contract.
 use Rattle.part.specs.Registers.{interruptOf}
 use borrow.Author.Needs.{needs}
 use lib.ListN.{set}
-use Rattle.part.proofs.rows.Heads.interrupt.Statement.{statement}
-use Rattle.part.proofs.rows.Heads.interrupt.Tie as tie
+use Rattle.part.proofs.rows.Heads.interrupt_level.Statement.{statement}
+use Rattle.part.proofs.rows.Heads.interrupt_level.Tie as tie
 
-pub interrupt-spec : {M : Type 1} → statement M
+pub interrupt-level-spec : {M : Type 1} → statement M
 unfolding interruptOf
-interrupt-spec =
+interrupt-level-spec =
     tie.close
     (tie.spec
     (λ c. λ κs. search needs)
