@@ -250,7 +250,7 @@ impl Head {
         match a {
             Ask::Nothing => self.refuse(0),
             Ask::Overrun => self.refuse(5),
-            Ask::Begin => self.begin(sla, lens, status, counts, settings),
+            Ask::Begin => self.begin(sla, lens, status, counts, settings).anew(),
             Ask::Wait => self.with_walk(sequence::waiting_walk(0)).refuse(0),
             Ask::Sto => self.with_walk(sequence::record_sto(w)).refuse(0),
             Ask::Seq => self.with_walk(sequence::record_seq(w)).refuse(0),

@@ -219,3 +219,14 @@ impl Head {
         }
     }
 }
+
+impl Headed {
+    // The same, put together anew: so the call that gave it writes to a place of its own, and what the other arms of a match give stays in registers.
+    pub(crate) fn anew(self) -> Headed
+        ensures { λ r. ⌜ r ≡ self ⌝ }
+    {
+        let head = self.head;
+        let answer = self.answer;
+        Headed { head, answer }
+    }
+}

@@ -477,10 +477,7 @@ impl Head {
             Turn::NackAddress(n) => self.nack(sla, lens, status, n, 0x04),
             Turn::NackSending(n) => self.nack(sla, lens, status, n, 0x08),
             Turn::Receive(n, b) => self.receive(sla, lens, status, counts, mem, n, b),
-            Turn::Begin => {
-                let h = self.to_phase(Phase::Idle);
-                h.begin(sla, lens, status, counts, settings)
-            }
+            Turn::Begin => self.begin(sla, lens, status, counts, settings).anew(),
             Turn::Late => self.be_late().refuse(0),
             Turn::End => self.end_frame(settings[0]).refuse(0),
             Turn::Fault(f) => self.fault(f).refuse(0),

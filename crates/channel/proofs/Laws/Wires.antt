@@ -1,14 +1,11 @@
 -- What a walk may rely on.
-use mathlib.Core.Path.{_≡_, refl}
+use mathlib.Core.Path.{_≡_}
 use mathlib.Core.List.{List}
 use Prim.Native.Nat.{ℕ, _+_, _<_, _≤_}
 use native.Mathlib.Omega.{arith}
 use lib.ListN.{getD}
 use Rattle.sequence.specs.declared.wires.Move.{Move}
-use Rattle.sequence.specs.declared.wires.Move.the-variants.{Halt, Send}
-use Rattle.sequence.specs.declared.wires.Beginning.{Beginning}
-use Rattle.sequence.specs.declared.wires.Beginning.the-variants.{Empty, Unfit, Fit}
-use Rattle.rules.specs.declared.state.Phase.{Phase}
+use Rattle.sequence.specs.declared.wires.Move.the-variants.{Send}
 use Rattle.sequence.specs.declared.wires.Turn.{Turn}
 use Rattle.sequence.specs.declared.wires.Turn.the-variants.{AckAddress, AckSending, NackAddress, NackSending, Receive, Begin}
 use Rattle.sequence.specs.declared.wires.Next.{Next}
@@ -17,8 +14,8 @@ use Rattle.rules.specs.Tables.{startOf, Running}
 use Rattle.sequence.specs.Wires.{Exists, Ready}
 use Rattle.rules.specs.Laws.Tables.{start-next}
 use Rattle.channel.specs.declared.state.Channel.{Channel}
-use Rattle.channel.specs.State.{countOf, phaseSet}
-use Rattle.channel.specs.Wires.{Counting, Meets, frameEnded, passed, sentTo, startedBy, started, cleared, beganBy, begun}
+use Rattle.channel.specs.State.{countOf}
+use Rattle.channel.specs.Wires.{Counting, Meets}
 
 -- ---- a move to a transaction
 pub exists-send : (m : Move) (n : ℕ) → Exists m → m ≡ Send n → n < 64
@@ -54,20 +51,3 @@ module _ (c : Channel) (t : Turn) (h : Meets c t) where
 
   pub meets-begin : t ≡ Begin → countOf c ≤ 64
   meets-begin e = rw e at h
-
--- ---- a frame begins in the same way from every phase
-module _ (c : Channel) (p : Phase) where
-  started-anew : (m : Move) (to : ℕ) → startedBy (passed (cleared (phaseSet c p)) 0 to) m ≡ startedBy (passed (cleared c) 0 to) m
-  unfolding startedBy passed cleared sentTo frameEnded
-  started-anew Halt to = refl
-  started-anew (Send n) to = refl
-
-  began-anew : (b : Beginning) → beganBy (phaseSet c p) b ≡ beganBy c b
-  unfolding beganBy started cleared
-  began-anew Empty = refl
-  began-anew Unfit = refl
-  began-anew Fit = started-anew _ _
-
-  pub begun-anew : begun (phaseSet c p) ≡ begun c
-  unfolding begun
-  begun-anew = began-anew _

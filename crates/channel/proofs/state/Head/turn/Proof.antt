@@ -1,9 +1,8 @@
 -- `channel::state::Head::turn` meets its contract.
-use Rattle.channel.proofs.Laws.Wires.{begun-anew, meets-ack-address, meets-ack-sending, meets-begin, meets-nack-address, meets-nack-sending, meets-receive}
+use Rattle.channel.proofs.Laws.Wires.{meets-ack-address, meets-ack-sending, meets-begin, meets-nack-address, meets-nack-sending, meets-receive}
 use Rattle.channel.specs.Wires.{frameEnded, turnStore, turned}
-use Rattle.rules.specs.declared.state.Phase.the-variants.{Idle}
 use borrow.Author.Needs.{needs}
-use mathlib.Core.Path.{_∙_, refl}
+use mathlib.Core.Path.{refl}
 use Rattle.channel.proofs.state.Head.turn.Statement.{statement}
 use Rattle.channel.proofs.state.Head.turn.Tie as tie
 
@@ -25,8 +24,8 @@ turn-spec =
     (λ c. search needs)
     (λ c. λ κs. (meets-receive _ _ (c .before .before .before .before .before .before .before .pre .0) _ _ (c .before .before .before .before .t5 .given .1), c .before .before .before .before .before .before .before .pre .1))
     (λ c. search needs)
+    (λ c. λ κs. meets-begin _ _ (c .before .before .before .before .before .pre .0) (c .before .before .enum-told2 .given .1))
     (λ c. λ κs. search needs)
-    (λ c. λ κs. meets-begin _ _ (c .before .before .before .before .before .before .pre .0) (c .before .before .before .enum-told2 .given .1))
     (λ c. search needs)
     (λ c. λ κs. search needs)
     (λ c. λ κs. search needs)
@@ -46,7 +45,7 @@ turn-spec =
     (λ c. rw (c .before .before .before .t4 .given .1) (c .nack2 .ensures _ _, refl))
     (λ c. search needs)
     (λ c. rw (c .before .before .before .before .before .before .before .t5 .given .1) (c .before .before .receive .ensures .0 _, c .before .before .receive .ensures .1))
-    (λ c. rw (c .before .before .before .before .enum-told2 .given .1) ((rw (c .before .before .before .to-phase .ensures) at (c .begin .ensures)) ∙ begun-anew _ Idle, refl))
+    (λ c. rw (c .before .before .before .before .enum-told2 .given .1, c .anew .ensures) (c .before .begin .ensures, refl))
     (λ c. rw (c .before .before .enum-told3 .given .1, c .refuse2 .ensures, c .before .be-late .ensures) (refl, refl))
     (λ c. rw (c .before .before .before .enum-told4 .given .1, c .refuse3 .ensures, c .before .end-frame .ensures) (refl, refl))
     (λ c. rw (c .before .before .before .t6 .given .1, c .refuse4 .ensures, c .before .fault .ensures) (refl, refl)))
