@@ -38,7 +38,7 @@ abbrev pub replyOf : Run → PartStepped → List ℕ
 replyOf s r =
     textIf (roomy (length (s .out)) (s .course .at)) (answerLine (nextOf (s .course .step)) (r .answer) (interruptOf (r .part)))
 
--- after what line l did, r with the bytes m: the next line starts behind the LF, and the answer stands behind the last one
+-- after a line that gave r and left the bytes m: the next line starts behind the LF, and the answer stands behind the last one
 abbrev pub replied : List ℕ → Run → PartStepped → List ℕ → Run
 replied block s r m = record {
   course = record {
@@ -71,7 +71,7 @@ unfoldable pub answered : List ℕ → ℕ → Run → Run
 answered block zero s = s
 answered block (suc n) s = if goesOn block s then answered block n (oneLine block s) else s
 
--- a block has no more lines than bytes
+-- all that there are: a block has no more lines than bytes
 abbrev pub Answers : List ℕ → Course → List ℕ → List ℕ → Course → List ℕ → List ℕ → Type 0
 Answers block s m o r m′ o′ =
     record { course = r; memory = m′; out = o′ } ≡ answered block (length block) (record { course = s; memory = m; out = o })

@@ -12,22 +12,22 @@ use Rattle.bench.specs.declared.Bench.{Bench}
 use Rattle.bench.specs.declared.lines.Start.{Start}
 use Rattle.bench.specs.Lines.{noLine, lengthened, keptOf, lineEnd}
 use Rattle.bench.specs.Performing.{performed, performedBytes}
-use Rattle.bench.specs.Answering.{lineAt}
+use Rattle.bench.specs.Answering.{lineAt, nextOf}
 
 -- another round, while each write went well and lines were answered
 abbrev pub goingOn : Bool → ℕ → ℕ → Bool
 goingOn running from to = if running then ltb from to else false
 
--- the lines of the block up to a place, in their order, lead from the part p and the memory m to these
-pub data Led (block : List ℕ) (p : Part) (m : List ℕ) : ℕ → Part → List ℕ → Type 0 where
-  none : Led block p m 0 p m
-  more : (from : ℕ) (q : Part) (n : List ℕ) → Led block p m from q n → lineEnd block from < length block
-      → Led block p m (lineEnd block from + 1) (performed q n (lineAt block from) .part) (performedBytes q n (lineAt block from))
+-- the lines of the block up to a place, in their order, lead from step k, the part p and the memory m to these
+pub data Led (block : List ℕ) (k : ℕ) (p : Part) (m : List ℕ) : ℕ → ℕ → Part → List ℕ → Type 0 where
+  none : Led block k p m 0 k p m
+  more : (from step : ℕ) (q : Part) (n : List ℕ) → Led block k p m from step q n → lineEnd block from < length block
+      → Led block k p m (lineEnd block from + 1) (nextOf step) (performed q n (lineAt block from) .part) (performedBytes q n (lineAt block from))
 
 -- the program r and the memory n after the lines of the block, all of them unless a write failed; what follows the last LF is kept
 pub record BlockAnswered (block : List ℕ) (b : Bench) (m : List ℕ) (r : Bench) (n : List ℕ) : Type 0 where
   pub till : ℕ
-  pub led : Led block (b .part) m till (r .part) n
+  pub led : Led block (b .step) (b .part) m till (r .step) (r .part) n
   pub all : r .running ≡ true → lineEnd block till ≡ length block
   pub kept : r .line ≡ lengthened noLine (drop till block)
   pub whole : Whole (r .part) n

@@ -11,7 +11,7 @@ use Rattle.bench.proofs.answer_block.Tie as tie
 
 abbrev Inv-loop : tie.InvT-loop
 Inv-loop block mem₀ out₀ part₀ step₀ running₀ from₀ going₀ mem out part step running from going =
-    (length out ≡ length out₀) × Rounds block part₀ mem₀ part mem from running going
+    (length out ≡ length out₀) × Rounds block step₀ part₀ mem₀ step part mem from running going
 
 abbrev μ-loop : tie.MeasureT-loop
 μ-loop block mem₀ out₀ part₀ step₀ running₀ from₀ going₀ mem out part step running from going = turnsLeft (length block) from going
@@ -22,12 +22,12 @@ answer-block-spec =
     (tie.spec
     Inv-loop
     μ-loop
-    (λ c. (refl, rounds-none _ _ _ _ (c .before .before .before .before .pre)))
+    (λ c. (refl, rounds-none _ _ _ _ _ (c .before .before .before .before .pre)))
     (λ c. λ κs. (c .before .before .before .loop .inv .1 .whole, c .before .before .before .loop .inv .1 .inside))
     (λ c. λ κs. search needs)
     (λ c. λ κs. search needs)
-    (λ c. let v = c .before .before .before .before .before .before .before .before .before .before .before .before .loop .inv .1 in let w = rounds-on (c .before .before .before .before .before .before .before .before .before .before .before .before .before .before .before .before .before .args .block .now) _ _ _ _ _ _ _ _ _ _ (record { led = v .led; whole = v .whole; inside = v .inside }) refl (c .before .before .before .before .before .before .before .before .answer-lines .ensures) (c .goes-on .ensures) in rw (c .before .before .before .before .before .before .before .before .before .before .before .loop-test .taken) (fewer-left _ _ _ _ _ (c .goes-on .ensures) (further-on (c .before .before .before .before .before .before .before .before .before .before .before .before .before .before .before .before .before .args .block .now) _ _ _ _ _ _ _ _ _ _ (record { led = v .led; whole = v .whole; inside = v .inside }) refl (c .before .before .before .before .before .before .before .before .answer-lines .ensures) (c .goes-on .ensures)) (w .inside)))
-    (λ c. let v = c .before .before .before .before .before .before .before .before .before .before .before .before .loop .inv .1 in (search needs, rounds-on (c .before .before .before .before .before .before .before .before .before .before .before .before .before .before .before .before .before .args .block .now) _ _ _ _ _ _ _ _ _ _ (record { led = v .led; whole = v .whole; inside = v .inside }) refl (c .before .before .before .before .before .before .before .before .answer-lines .ensures) (c .goes-on .ensures)))
+    (λ c. let v = c .before .before .before .before .before .before .before .before .before .before .before .before .loop .inv .1 in let w = rounds-on (c .before .before .before .before .before .before .before .before .before .before .before .before .before .before .before .before .before .args .block .now) _ _ _ _ _ _ _ _ _ _ _ (record { led = v .led; whole = v .whole; inside = v .inside }) refl (c .before .before .before .before .before .before .before .before .answer-lines .ensures) (c .goes-on .ensures)  in rw (c .before .before .before .before .before .before .before .before .before .before .before .loop-test .taken) (fewer-left _ _ _ _ _ (c .goes-on .ensures) (further-on (c .before .before .before .before .before .before .before .before .before .before .before .before .before .before .before .before .before .args .block .now) _ _ _ _ _ _ _ _ _ _ _ (record { led = v .led; whole = v .whole; inside = v .inside }) refl (c .before .before .before .before .before .before .before .before .answer-lines .ensures) (c .goes-on .ensures)) (w .inside)))
+    (λ c. let v = c .before .before .before .before .before .before .before .before .before .before .before .before .loop .inv .1 in (search needs, rounds-on (c .before .before .before .before .before .before .before .before .before .before .before .before .before .before .before .before .before .args .block .now) _ _ _ _ _ _ _ _ _ _ _ (record { led = v .led; whole = v .whole; inside = v .inside }) refl (c .before .before .before .before .before .before .before .before .answer-lines .ensures) (c .goes-on .ensures)))
     (λ c. λ κs. search needs)
     (λ c. let i = c .before .before .loop .inv .1 .inside in search needs)
     (λ c. let i = c .before .before .loop .inv .1 .inside in search needs)

@@ -21,26 +21,26 @@ use Rattle.bench.specs.Laws.Performing.{performed-whole}
 use Rattle.bench.specs.Laws.Answering.{goes-in}
 
 -- what holds where the program stands, before a round and after it
-pub record Stands (block : List ℕ) (p : Part) (m : List ℕ) (s : Run) : Type 0 where
-  pub led : Led block p m (s .course .from) (s .course .part) (s .memory)
+pub record Stands (block : List ℕ) (k : ℕ) (p : Part) (m : List ℕ) (s : Run) : Type 0 where
+  pub led : Led block k p m (s .course .from) (s .course .step) (s .course .part) (s .memory)
   pub whole : Whole (s .course .part) (s .memory)
   pub inside : s .course .from ≤ length block
 
-module _ (block : List ℕ) (p : Part) (m : List ℕ) where
-  stands-one : (s : Run) → Stands block p m s → goesOn block s ≡ true → Stands block p m (oneLine block s)
+module _ (block : List ℕ) (k : ℕ) (p : Part) (m : List ℕ) where
+  stands-one : (s : Run) → Stands block k p m s → goesOn block s ≡ true → Stands block k p m (oneLine block s)
   unfolding oneLine
   stands-one s w g =
       let h = goes-in block s g in
       record {
-        led = more (s .course .from) (s .course .part) (s .memory) (w .led) h;
+        led = more (s .course .from) (s .course .step) (s .course .part) (s .memory) (w .led) h;
         whole = performed-whole (s .course .part) (s .memory) (lineAt block (s .course .from)) (w .whole);
         inside = omega (arith, h);
       }
 
-  pub stands-on : (n : ℕ) (s : Run) → Stands block p m s → Stands block p m (answered block n s)
+  pub stands-on : (n : ℕ) (s : Run) → Stands block k p m s → Stands block k p m (answered block n s)
   unfolding answered
   stands-on zero s w = w
-  stands-on (suc n) s w = pick-holds (Stands block p m) (goesOn block s) (λ g. stands-on n (oneLine block s) (stands-one s w g)) (λ _. w)
+  stands-on (suc n) s w = pick-holds (Stands block k p m) (goesOn block s) (λ g. stands-on n (oneLine block s) (stands-one s w g)) (λ _. w)
 
 -- a round goes on from its place, and a line takes it further
 AtLeast : ℕ → Run → Type 0
@@ -81,18 +81,18 @@ module _ (block : List ℕ) where
       omega (arith, a, b)
 
 -- ---- the rounds: where the program stands, and that the last one left no line
-pub record Rounds (block : List ℕ) (p : Part) (m : List ℕ) (q : Part) (n : List ℕ) (from : ℕ) (running going : Bool) : Type 0 where
-  pub led : Led block p m from q n
+pub record Rounds (block : List ℕ) (k : ℕ) (p : Part) (m : List ℕ) (step : ℕ) (q : Part) (n : List ℕ) (from : ℕ) (running going : Bool) : Type 0 where
+  pub led : Led block k p m from step q n
   pub whole : Whole q n
   pub inside : from ≤ length block
   pub all : going ≡ false → running ≡ true → lineEnd block from ≡ length block
 
-pub rounds-none : (block : List ℕ) (p : Part) (m : List ℕ) (running : Bool) → Whole p m → Rounds block p m p m 0 running true
-rounds-none block p m running w =
+pub rounds-none : (block : List ℕ) (k : ℕ) (p : Part) (m : List ℕ) (running : Bool) → Whole p m → Rounds block k p m k p m 0 running true
+rounds-none block k p m running w =
     record { led = none; whole = w; inside = omega arith; all = λ e _. absurd (omega (arith, false-not-true (sym e))) }
 
-module _ (block : List ℕ) (p : Part) (m : List ℕ) (s r : Course) (n o n′ o′ : List ℕ) (running going : Bool)
-    (w : Stands block p m (record { course = s; memory = n; out = o })) (z : s .at ≡ 0) (done : Answers block s n o r n′ o′)
+module _ (block : List ℕ) (k : ℕ) (p : Part) (m : List ℕ) (s r : Course) (n o n′ o′ : List ℕ) (running going : Bool)
+    (w : Stands block k p m (record { course = s; memory = n; out = o })) (z : s .at ≡ 0) (done : Answers block s n o r n′ o′)
     (go : going ≡ goingOn running (s .from) (r .from)) where
   before : Run
   before = record { course = s; memory = n; out = o }
@@ -100,22 +100,22 @@ module _ (block : List ℕ) (p : Part) (m : List ℕ) (s r : Course) (n o n′ o
   after : Run
   after = record { course = r; memory = n′; out = o′ }
 
-  stands-after : Stands block p m after
+  stands-after : Stands block k p m after
   unfolding before after
-  stands-after = rw done (stands-on block p m (length block) before w)
+  stands-after = rw done (stands-on block k p m (length block) before w)
 
   pub further-on : s .from ≤ r .from
   unfolding before after
   further-on = rw (← ap (λ (x : Run). x .course .from) done) at (answered-from block (length block) before)
 
-  still : (k : ℕ) → length block ≡ k → r .from ≤ s .from → lineEnd block (s .from) ≡ length block
+  still : (size : ℕ) → length block ≡ size → r .from ≤ s .from → lineEnd block (s .from) ≡ length block
   unfolding before after
   still zero e h = let a = end-in block (s .from) (w .inside) in omega (arith, e, a)
-  still (suc k) e h =
+  still (suc n) e h =
       let stay : answered block (length block) before .course .from ≤ s .from = rw (← done) h in
       none-left block before z (w .inside) (answered-none block (length block) before (omega (arith, e)) stay)
 
-  pub rounds-on : Rounds block p m (r .part) n′ (r .from) running going
+  pub rounds-on : Rounds block k p m (r .step) (r .part) n′ (r .from) running going
   unfolding after if_then_else_
   rounds-on =
       record {
