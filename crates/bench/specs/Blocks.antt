@@ -1,7 +1,7 @@
 -- What the program makes of a block of bytes: each line that ends in it does its step, and the start of the one that doesn't is kept.
 use Prim.Native.Nat.{ℕ, _+_, _-_, _<_, _≤_}
 use mathlib.Core.Bool.{Bool, true, false}
-use mathlib.Core.List.{List, _++_}
+use mathlib.Core.List.{List, [], _∷_, _++_}
 use mathlib.Core.Path.{_≡_}
 use lib.Dec.{ltb}
 use lib.ListN.{length, take, drop}
@@ -32,6 +32,29 @@ pub record BlockAnswered (block : List ℕ) (b : Bench) (m : List ℕ) (r : Benc
   pub kept : r .line ≡ lengthened noLine (drop till block)
   pub whole : Whole (r .part) n
 
--- what was kept of a line, and behind it the bytes of the block from place 12 up to a place
+-- what is kept of a line
+abbrev pub keptBytes : Start → List ℕ
+keptBytes line = take (keptOf (line .len)) (line .bytes)
+
+-- that, and behind it the bytes of the block from place 12 up to a place
 abbrev pub joinedBytes : Start → List ℕ → ℕ → List ℕ
-joinedBytes line block till = take (keptOf (line .len)) (line .bytes) ++ take (till - 12) (drop 12 block)
+joinedBytes line block till = keptBytes line ++ take (till - 12) (drop 12 block)
+
+-- ---- the input ends: what follows the last LF is a line if it has a byte
+
+-- it is answered as if an LF (10) followed, and leaves the part q
+pub record LastLine (b : Bench) (m : List ℕ) (q : Part) (n : List ℕ) : Type 0 where
+  pub after : Bench
+  pub part : after .part ≡ q
+  pub answered : BlockAnswered (keptBytes (b .line) ++ (10 ∷ [])) b m after n
+
+pub record Ended (b : Bench) (m : List ℕ) (r : Bench) (n : List ℕ) : Type 0 where
+  pub stopped : r .running ≡ false
+  pub nothing : b .line .len ≡ 0 → (r .part ≡ b .part) × (n ≡ m)
+  pub last : 0 < b .line .len → LastLine b m (r .part) n
+  pub whole : Whole (r .part) n
+
+-- ---- one read: the input has ended, or the bytes that came are answered behind what was kept
+pub data Turned (b : Bench) (m : List ℕ) (r : Bench) (n : List ℕ) : Type 0 where
+  ended : Ended b m r n → Turned b m r n
+  read : (came : List ℕ) → BlockAnswered (keptBytes (b .line) ++ came) b m r n → Turned b m r n

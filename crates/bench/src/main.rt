@@ -2,12 +2,12 @@
 mod answering;
 mod lines;
 
-ghost use mathlib.Core.Bool.{true};
+ghost use mathlib.Core.Bool.{true, false};
 ghost use mathlib.Core.Path.{_≡_};
 ghost use Prim.Native.Nat.{_≤_};
 ghost use lib.ListN.{length};
 ghost use Rattle.part.specs.Step.{partIn, Whole};
-ghost use Rattle.bench.specs.Blocks.{goingOn, joinedBytes, BlockAnswered};
+ghost use Rattle.bench.specs.Blocks.{goingOn, joinedBytes, BlockAnswered, Ended, Turned};
 use answering::Course;
 use answering::answer_lines;
 use libc::STDIN_FILENO;
@@ -91,7 +91,7 @@ fn answer_from(b: Bench, block: &mut [u8], till: usize, mem: &mut [u8], out: &mu
 
 // The program ends.
 fn stop(mut b: Bench) -> Bench
-    ensures { λ r. ⌜ r .part ≡ b .part ⌝ }
+    ensures { λ r. ⌜ (r .part ≡ b .part) × (r .running ≡ false) ⌝ }
 {
     b.running = false;
     b
@@ -100,7 +100,7 @@ fn stop(mut b: Bench) -> Bench
 // The input has ended: what follows the last LF is a line if it has a byte.
 fn finish(b: Bench, block: &mut [u8], mem: &mut [u8], out: &mut [u8]) -> Bench
     requires { ⌜ Whole (b .part) (now mem) × (13 ≤ length (now block)) ⌝ }
-    ensures { λ r. ⌜ Whole (r .part) (now (mem .exit)) ⌝ }
+    ensures { λ r. ⌜ Ended b (now (mem .entry)) r (now (mem .exit)) ⌝ }
 {
     let line = b.line;
     if 0 < line.len {
@@ -113,7 +113,7 @@ fn finish(b: Bench, block: &mut [u8], mem: &mut [u8], out: &mut [u8]) -> Bench
 // One read, of what is there, and the answers to its lines.
 fn turn(b: Bench, block: &mut [u8], mem: &mut [u8], out: &mut [u8]) -> Bench
     requires { ⌜ Whole (b .part) (now mem) × (length (now block) ≡ 65536) ⌝ }
-    ensures { λ r. ⌜ Whole (r .part) (now (mem .exit)) ⌝ }
+    ensures { λ r. ⌜ Turned b (now (mem .entry)) r (now (mem .exit)) ⌝ }
 {
     let got = libc::read(STDIN_FILENO, &mut block[12..]);
     let n = io::count(got, &block[12..]);

@@ -26,7 +26,7 @@ answer-block-spec =
     (λ c. λ κs. (c .before .before .before .loop .inv .1 .whole, c .before .before .before .loop .inv .1 .inside))
     (λ c. λ κs. search needs)
     (λ c. λ κs. search needs)
-    (λ c. let v = c .before .before .before .before .before .before .before .before .before .before .before .before .loop .inv .1 in let w = rounds-on (c .before .before .before .before .before .before .before .before .before .before .before .before .before .before .before .before .before .args .block .now) _ _ _ _ _ _ _ _ _ _ _ (record { led = v .led; whole = v .whole; inside = v .inside }) refl (c .before .before .before .before .before .before .before .before .answer-lines .ensures) (c .goes-on .ensures)  in rw (c .before .before .before .before .before .before .before .before .before .before .before .loop-test .taken) (fewer-left _ _ _ _ _ (c .goes-on .ensures) (further-on (c .before .before .before .before .before .before .before .before .before .before .before .before .before .before .before .before .before .args .block .now) _ _ _ _ _ _ _ _ _ _ _ (record { led = v .led; whole = v .whole; inside = v .inside }) refl (c .before .before .before .before .before .before .before .before .answer-lines .ensures) (c .goes-on .ensures)) (w .inside)))
+    (λ c. let v = c .before .before .before .before .before .before .before .before .before .before .before .before .loop .inv .1 in let w = rounds-on (c .before .before .before .before .before .before .before .before .before .before .before .before .before .before .before .before .before .args .block .now) _ _ _ _ _ _ _ _ _ _ _ (record { led = v .led; whole = v .whole; inside = v .inside }) refl (c .before .before .before .before .before .before .before .before .answer-lines .ensures) (c .goes-on .ensures) in rw (c .before .before .before .before .before .before .before .before .before .before .before .loop-test .taken) (fewer-left _ _ _ _ _ (c .goes-on .ensures) (further-on (c .before .before .before .before .before .before .before .before .before .before .before .before .before .before .before .before .before .args .block .now) _ _ _ _ _ _ _ _ _ _ _ (record { led = v .led; whole = v .whole; inside = v .inside }) refl (c .before .before .before .before .before .before .before .before .answer-lines .ensures) (c .goes-on .ensures)) (w .inside)))
     (λ c. let v = c .before .before .before .before .before .before .before .before .before .before .before .before .loop .inv .1 in (search needs, rounds-on (c .before .before .before .before .before .before .before .before .before .before .before .before .before .before .before .before .before .args .block .now) _ _ _ _ _ _ _ _ _ _ _ (record { led = v .led; whole = v .whole; inside = v .inside }) refl (c .before .before .before .before .before .before .before .before .answer-lines .ensures) (c .goes-on .ensures)))
     (λ c. λ κs. search needs)
     (λ c. let i = c .before .before .loop .inv .1 .inside in search needs)

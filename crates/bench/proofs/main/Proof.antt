@@ -1,4 +1,5 @@
 -- `bench::main` meets its contract: each turn leaves what no. 9 asks.
+use Rattle.bench.specs.Laws.Blocks.{turned-whole}
 use Rattle.part.specs.Step.{Whole}
 use borrow.Author.Needs.{needs}
 use lib.ListN.{length}
@@ -29,6 +30,6 @@ main-spec =
     (λ c. λ κs. (c .before .before .before .before .before .loop .inv .2, c .before .before .before .before .before .loop .inv .0))
     (λ c. search needs)
     (λ c. search needs)
-    (λ c. (search needs, search needs, c .before .before .before .turn .ensures))
+    (λ c. (search needs, search needs, turned-whole _ _ _ _ (c .before .before .before .turn .ensures)))
     (λ c. search needs)
     (λ c. search needs))

@@ -11,11 +11,13 @@ use Rattle.laws.specs.Pick.{if_then_else_}
 use Rattle.laws.specs.Cases.{pick-holds, false-not-true}
 use Rattle.part.specs.declared.state.Part.{Part}
 use Rattle.part.specs.Step.{Whole}
+use Rattle.bench.specs.declared.Bench.{Bench}
 use Rattle.bench.specs.declared.answering.Course.{Course}
 use Rattle.bench.specs.Lines.{lineEnd}
 use Rattle.bench.specs.Answering.{Run, lineAt, oneLine, hasRoom, goesOn, answered, Answers}
-use Rattle.bench.specs.Blocks.{goingOn, Led}
+use Rattle.bench.specs.Blocks.{goingOn, Led, Turned}
 use Rattle.bench.specs.Blocks.Led.{none, more}
+use Rattle.bench.specs.Blocks.Turned.{ended, read}
 use Rattle.bench.specs.Laws.Lines.{end-after, end-in}
 use Rattle.bench.specs.Laws.Performing.{performed-whole}
 use Rattle.bench.specs.Laws.Answering.{goes-in}
@@ -138,3 +140,8 @@ unfolding turnsLeft if_then_else_
 fewer-left len from to true true e h i = let k = ltb-true from to (sym e) in omega (arith, h, i, k)
 fewer-left len from to false true e h i = absurd (omega (arith, false-not-true (sym e)))
 fewer-left len from to running false e h i = omega (arith, h, i)
+
+-- ---- after one read no. 9 refuses nothing
+pub turned-whole : (b : Bench) (m : List ℕ) (r : Bench) (n : List ℕ) → Turned b m r n → Whole (r .part) n
+turned-whole b m r n (ended w) = w .whole
+turned-whole b m r n (read came w) = w .whole

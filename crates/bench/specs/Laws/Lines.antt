@@ -8,7 +8,7 @@ use native.Mathlib.Omega.{arith}
 use borrow.Author.Tests.{ltb-true, ltb-false, leb-true, leb-false}
 use lib.Dec.{eqb, leb, ltb}
 use lib.ListN.{length, getD, take, drop, set, length-append, length-drop, length-take, length-set, length-replicate, drop-of-length-le}
-use lib.Seq.{sets, sets-eq, drop-append-seam, drop-cons, length-take-le, take-all, take-append-add, take-append-le, take-suc-set}
+use lib.Seq.{sets, sets-eq, drop-append-seam, drop-cons, length-take-le, take-all, take-append-add, take-append-seam, take-append-le, take-suc-set}
 use Rattle.laws.specs.Pick.{if_then_else_}
 use Rattle.laws.specs.Cases.{pick-holds}
 use Rattle.script.specs.Grammar.{lineOf}
@@ -45,22 +45,28 @@ module _ (block : List ℕ) (from : ℕ) where
       let e : firstLf (drop from block) ≡ firstLf (drop (from + 1) block) + 1 = ap firstLf (drop-cons block from 0 h) ∙ rw (t, n) in
       omega (arith, e)
 
--- ---- n bytes right before place 12, and those that follow it
+-- ---- bytes that are put somewhere, and those that follow them
+behind-put : (k l : List ℕ) (a : ℕ) → a + length k ≤ length l → drop a (sets l a k) ≡ k ++ drop (a + length k) l
+behind-put k l a h =
+    let front : length (take a l) ≡ a = length-take-le a l (omega (arith, h)) in
+    let rest = k ++ drop (a + length k) l in
+    ap (drop a) (sets-eq k l a h ∙ append-assoc (take a l) k (drop (a + length k) l))
+    ∙ ap (λ (x : ℕ). drop x (take a l ++ rest)) (sym front) ∙ drop-append-seam (take a l) rest
+
+-- n bytes right before place 12
 pub put-before : (k block : List ℕ) (n till : ℕ) → length k ≡ n → n ≤ 12 → 12 ≤ till → till ≤ length block
     → take (till - (12 - n)) (drop (12 - n) (sets block (12 - n) k)) ≡ k ++ take (till - 12) (drop 12 block)
 put-before k block n till e h i j =
     let a = 12 - n in
     let twelve : a + length k ≡ 12 = omega (arith, e, h) in
-    let front : length (take a block) ≡ a = length-take-le a block (omega (arith, i, j)) in
-    let rest = k ++ drop 12 block in
-    let put : sets block a k ≡ take a block ++ rest =
-    sets-eq k block a (omega (arith, twelve, i, j))
-    ∙ append-assoc (take a block) k (drop (a + length k) block)
-    ∙ ap (λ (x : ℕ). take a block ++ (k ++ drop x block)) twelve in
-    let behind : drop a (sets block a k) ≡ rest =
-    ap (drop a) put ∙ ap (λ (x : ℕ). drop x (take a block ++ rest)) (sym front) ∙ drop-append-seam (take a block) rest in
+    let behind : drop a (sets block a k) ≡ k ++ drop 12 block =
+    behind-put k block a (omega (arith, twelve, i, j)) ∙ ap (λ (x : ℕ). k ++ drop x block) twelve in
     let size : till - a ≡ length k + (till - 12) = omega (arith, e, h, i) in
-    ap (take (till - a)) behind ∙ ap (λ (x : ℕ). take x rest) size ∙ take-append-add k (drop 12 block) (till - 12)
+    ap (take (till - a)) behind ∙ ap (λ (x : ℕ). take x (k ++ drop 12 block)) size ∙ take-append-add k (drop 12 block) (till - 12)
+
+-- one byte at place 12
+pub put-one : (block : List ℕ) (x : ℕ) → 13 ≤ length block → take 1 (drop 12 (sets block 12 (x ∷ []))) ≡ x ∷ []
+put-one block x h = ap (take 1) (behind-put (x ∷ []) block 12 h) ∙ take-append-seam (x ∷ []) (drop 13 block)
 
 -- ---- what is kept of the bytes l: the first twelve
 record Keeps (s : Start) (l : List ℕ) : Type 0 where
