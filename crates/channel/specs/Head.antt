@@ -15,7 +15,7 @@ use Rattle.channel.specs.declared.state.Channel.{Channel}
 use Rattle.channel.specs.declared.state.Stepped.{Stepped}
 use Rattle.channel.specs.declared.state.Head.{Head}
 use Rattle.channel.specs.declared.state.Headed.{Headed}
-use Rattle.channel.specs.State.{fresh}
+use Rattle.channel.specs.State.{fresh, slaPtr, confPtr, dataPtr, countPtr, maskRegs, placeRegs, modeRegs}
 
 -- all of a channel but its tables
 abbrev pub headOf : Channel → Head
@@ -102,23 +102,23 @@ endedSo h framecnt e = headWalk (headFlags h (endFlags (h .flags) (h .regs .te) 
 
 -- ---- one pointer replaced
 abbrev pub slaTo : Head → ℕ → Head
-slaTo h n = headPtrs h (record { sla = n; conf = h .ptrs .conf; buf = h .ptrs .buf; count = h .ptrs .count })
+slaTo h n = headPtrs h (slaPtr (h .ptrs) n)
 
 abbrev pub confTo : Head → ℕ → Head
-confTo h n = headPtrs h (record { sla = h .ptrs .sla; conf = n; buf = h .ptrs .buf; count = h .ptrs .count })
+confTo h n = headPtrs h (confPtr (h .ptrs) n)
 
 abbrev pub dataTo : Head → ℕ → Head
-dataTo h n = headPtrs h (record { sla = h .ptrs .sla; conf = h .ptrs .conf; buf = n; count = h .ptrs .count })
+dataTo h n = headPtrs h (dataPtr (h .ptrs) n)
 
 abbrev pub countTo : Head → ℕ → Head
-countTo h n = headPtrs h (record { sla = h .ptrs .sla; conf = h .ptrs .conf; buf = h .ptrs .buf; count = n })
+countTo h n = headPtrs h (countPtr (h .ptrs) n)
 
--- ---- registers replaced: INTMSK; TRANSEL and TRANOFS; TP and TE
+-- ---- registers replaced
 abbrev pub maskTo : Head → ℕ → Head
-maskTo h n = headRegs h (record { intmsk = n; transel = h .regs .transel; tranofs = h .regs .tranofs; tp = h .regs .tp; te = h .regs .te })
+maskTo h n = headRegs h (maskRegs (h .regs) n)
 
 abbrev pub placeTo : Head → ℕ → ℕ → Head
-placeTo h v o = headRegs h (record { intmsk = h .regs .intmsk; transel = v; tranofs = o; tp = h .regs .tp; te = h .regs .te })
+placeTo h v o = headRegs h (placeRegs (h .regs) v o)
 
 abbrev pub modeTo : Head → Bool → Bool → Head
-modeTo h tp te = headRegs h (record { intmsk = h .regs .intmsk; transel = h .regs .transel; tranofs = h .regs .tranofs; tp = tp; te = te })
+modeTo h tp te = headRegs h (modeRegs (h .regs) tp te)

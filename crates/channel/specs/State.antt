@@ -104,27 +104,48 @@ abbrev pub withKey : Channel → Bool → Channel
 withKey c k = record { slatable = c .slatable; tranconfig = c .tranconfig; status = c .status; bytecount = c .bytecount; settings = c .settings; regs = c .regs; flags = c .flags; ptrs = c .ptrs; walk = c .walk; key = k }
 
 -- ---- one pointer replaced
+abbrev pub slaPtr : Ptrs → ℕ → Ptrs
+slaPtr p n = record { sla = n; conf = p .conf; buf = p .buf; count = p .count }
+
+abbrev pub confPtr : Ptrs → ℕ → Ptrs
+confPtr p n = record { sla = p .sla; conf = n; buf = p .buf; count = p .count }
+
+abbrev pub dataPtr : Ptrs → ℕ → Ptrs
+dataPtr p n = record { sla = p .sla; conf = p .conf; buf = n; count = p .count }
+
+abbrev pub countPtr : Ptrs → ℕ → Ptrs
+countPtr p n = record { sla = p .sla; conf = p .conf; buf = p .buf; count = n }
+
 abbrev pub slaAt : Channel → ℕ → Channel
-slaAt c n = withPtrs c (record { sla = n; conf = c .ptrs .conf; buf = c .ptrs .buf; count = c .ptrs .count })
+slaAt c n = withPtrs c (slaPtr (c .ptrs) n)
 
 abbrev pub confAt : Channel → ℕ → Channel
-confAt c n = withPtrs c (record { sla = c .ptrs .sla; conf = n; buf = c .ptrs .buf; count = c .ptrs .count })
+confAt c n = withPtrs c (confPtr (c .ptrs) n)
 
 abbrev pub dataAt : Channel → ℕ → Channel
-dataAt c n = withPtrs c (record { sla = c .ptrs .sla; conf = c .ptrs .conf; buf = n; count = c .ptrs .count })
+dataAt c n = withPtrs c (dataPtr (c .ptrs) n)
 
 abbrev pub countAt : Channel → ℕ → Channel
-countAt c n = withPtrs c (record { sla = c .ptrs .sla; conf = c .ptrs .conf; buf = c .ptrs .buf; count = n })
+countAt c n = withPtrs c (countPtr (c .ptrs) n)
 
--- ---- registers replaced
+-- ---- registers replaced: INTMSK; TRANSEL and TRANOFS; TP and TE
+abbrev pub maskRegs : Regs → ℕ → Regs
+maskRegs r n = record { intmsk = n; transel = r .transel; tranofs = r .tranofs; tp = r .tp; te = r .te }
+
+abbrev pub placeRegs : Regs → ℕ → ℕ → Regs
+placeRegs r v o = record { intmsk = r .intmsk; transel = v; tranofs = o; tp = r .tp; te = r .te }
+
+abbrev pub modeRegs : Regs → Bool → Bool → Regs
+modeRegs r tp te = record { intmsk = r .intmsk; transel = r .transel; tranofs = r .tranofs; tp = tp; te = te }
+
 abbrev pub maskSet : Channel → ℕ → Channel
-maskSet c n = withRegs c (record { intmsk = n; transel = c .regs .transel; tranofs = c .regs .tranofs; tp = c .regs .tp; te = c .regs .te })
+maskSet c n = withRegs c (maskRegs (c .regs) n)
 
 abbrev pub placeSet : Channel → ℕ → ℕ → Channel
-placeSet c v o = withRegs c (record { intmsk = c .regs .intmsk; transel = v; tranofs = o; tp = c .regs .tp; te = c .regs .te })
+placeSet c v o = withRegs c (placeRegs (c .regs) v o)
 
 abbrev pub modeSet : Channel → Bool → Bool → Channel
-modeSet c tp te = withRegs c (record { intmsk = c .regs .intmsk; transel = c .regs .transel; tranofs = c .regs .tranofs; tp = tp; te = te })
+modeSet c tp te = withRegs c (modeRegs (c .regs) tp te)
 
 -- ---- the walk: its phase, or a new one
 abbrev pub phaseSet : Channel → Phase → Channel

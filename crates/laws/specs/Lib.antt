@@ -1,3 +1,4 @@
 pub mod Pick
 pub mod Cases
+pub mod Sets
 pub mod Windows

@@ -9,6 +9,7 @@ use lib.Seq.{sets}
 use Rattle.laws.specs.Pick.{if_then_else_}
 use Rattle.part.specs.declared.state.Act.{Act}
 use Rattle.part.specs.declared.state.PartAnswer.{PartAnswer}
+use Rattle.part.specs.State.{quiet}
 use Rattle.sequence.specs.Action.{digitOf, textOf}
 use Rattle.sequence.specs.declared.wires.Action.{Action}
 use Rattle.sequence.specs.declared.wires.Action.the-variants.{Nothing, S, R, D, C, A, Np, Nr, P}
@@ -107,6 +108,4 @@ roomy len at = leb (at + 80) len
 
 -- the answer to a line that can't be read: no. 8, value 00, no action
 abbrev pub noAnswer : PartAnswer
-noAnswer =
-    let none : Act = record { action = Nothing } in
-    record { number = 8; value = 0; actions = none ∷ none ∷ none ∷ [] }
+noAnswer = record { number = 8; value = 0; actions = quiet }

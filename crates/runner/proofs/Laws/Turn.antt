@@ -7,6 +7,7 @@ use native.Mathlib.Omega.{arith}
 use borrow.Author.Tests.{eqb-true}
 use lib.ListN.{length, drop, drop-of-length-le}
 use lib.Seq.{sets, sets-eq}
+use Rattle.laws.specs.Sets.{sets-append}
 use Rattle.laws.specs.Cases.{both, pick-false}
 use Rattle.mixes.specs.Mix.{ends, log}
 use Rattle.part.specs.declared.state.Part.{Part}
@@ -18,12 +19,6 @@ use Rattle.runner.specs.Bytes.{askedAt, linesOf, bytesOf}
 use Rattle.runner.specs.Run.{start, answered, afterLine, theRunner, bytesOfLog, fitting, ranOf, ranMemory, ranAnswers, Runs}
 use Rattle.runner.specs.Laws.Bytes.{lines-next, length-lines}
 use Rattle.runner.specs.Laws.Run.{length-answers, fits-ran, fits-memory, fits-answers}
-
-sets-append : (l xs ys : List ℕ) (i : ℕ) → sets l i (xs ++ ys) ≡ sets (sets l i xs) (i + length xs) ys
-sets-append l [] ys i = let e : i + 0 ≡ i = omega arith in rw e
-sets-append l (x ∷ xs) ys i =
-    let e : suc i + length xs ≡ i + suc (length xs) = omega arith in
-    sets-append _ xs ys (suc i) ∙ ap (λ (k : ℕ). sets (sets l i (x ∷ xs)) k ys) e
 
 -- as many stores as there are places
 sets-all : (l m : List ℕ) → length l ≡ length m → sets m 0 l ≡ l

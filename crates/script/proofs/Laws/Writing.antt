@@ -12,15 +12,10 @@ use lib.ListN.{length, getD, take, drop, set, length-append, drop-of-length-le}
 use lib.Seq.{sets, drop-cons, set-comm}
 use borrow.Author.Tests.{le-leb, lt-leb, lt-ltb, le-ltb, leb-true, ltb-true, ltb-false}
 use Rattle.laws.specs.Pick.{if_then_else_}
+use Rattle.laws.specs.Sets.{sets-append}
 use Rattle.laws.specs.Cases.{flag-true, flag-false, false-not-true}
 use Rattle.sequence.specs.declared.wires.Action.{Action}
 use Rattle.script.specs.Answer.{Put, textIf, digitsOf, busyOf, orOf, actionOf, joined, roomy}
-
-sets-append : (l xs ys : List ℕ) (i : ℕ) → sets l i (xs ++ ys) ≡ sets (sets l i xs) (i + length xs) ys
-sets-append l [] ys i = let e : i + 0 ≡ i = omega arith in rw e
-sets-append l (x ∷ xs) ys i =
-    let e : suc i + length xs ≡ i + suc (length xs) = omega arith in
-    sets-append _ xs ys (suc i) ∙ ap (λ (k : ℕ). sets (sets l i (x ∷ xs)) k ys) e
 
 -- nothing is put
 put-none : (l : List ℕ) (at : ℕ) → Put l at [] at l
