@@ -7,7 +7,6 @@ use lib.Dec.{eqb, ltb, leb}
 use lib.ListN.{length, take, drop}
 use lib.Seq.{sets}
 use Rattle.laws.specs.Pick.{if_then_else_}
-use Rattle.part.specs.declared.state.Part.{Part}
 use Rattle.part.specs.declared.state.PartStepped.{PartStepped}
 use Rattle.part.specs.Registers.{interruptOf}
 use Rattle.script.specs.declared.reading.Line.{Line}

@@ -2,11 +2,13 @@
 mod answering;
 mod lines;
 
-ghost use mathlib.Core.Bool.{true, false};
+ghost use mathlib.Core.Bool.{false};
 ghost use mathlib.Core.Path.{_≡_};
 ghost use Prim.Native.Nat.{_≤_};
 ghost use lib.ListN.{length};
-ghost use Rattle.part.specs.Step.{partIn, Whole};
+ghost use Rattle.part.specs.State.{freshPart};
+ghost use Rattle.part.specs.Step.{Whole};
+ghost use Rattle.bench.specs.Lines.{noLine};
 ghost use Rattle.bench.specs.Blocks.{goingOn, joinedBytes, BlockAnswered, Ended, Turned};
 use answering::Course;
 use answering::answer_lines;
@@ -125,7 +127,7 @@ fn turn(b: Bench, block: &mut [u8], mem: &mut [u8], out: &mut [u8]) -> Bench
 
 // The program begins: the part after a reset, and the header is written.
 fn begin(out: &mut [u8]) -> Bench
-    ensures { λ r. ⌜ partIn (r .part) ≡ true ⌝ }
+    ensures { λ r. ⌜ (r .part ≡ freshPart) × (r .step ≡ 0) × (r .line ≡ noLine) ⌝ }
 {
     let n = script::write_header(out, 0);
     Bench {

@@ -1,6 +1,6 @@
 // One step of a single channel: a write, a read, or an event of the wires.
 ghost use mathlib.Core.Path.{_≡_};
-ghost use lib.ListN.{length, getD};
+ghost use lib.ListN.{length};
 ghost use Rattle.rules.specs.Registers.{KnownPlace};
 ghost use Rattle.sequence.specs.Wires.{turnOf};
 ghost use Rattle.channel.specs.Head.{joined, Writes, Reads, Turns};

@@ -9,7 +9,7 @@ ghost use Rattle.sequence.specs.Wires.{Exists, Ready, haltedOf, nextOf, restOf,
 ghost use Rattle.sequence.specs.Walk.{idle, nackFlags, errorNoted, lateFlags, lateWalk, faultFlags};
 ghost use Rattle.channel.specs.Head.{joined, told, headWalk, headFlags, inPhase, endedSo, Turns, Counts, Starts, Begins, Walks, Sends};
 ghost use Rattle.channel.specs.Range.{inRange};
-ghost use Rattle.channel.specs.Wires.{byteAt, movedTo, onward, finished, startedBy, started, beganBy, begun, sendOn, ackAddress, ackSending, receiveOn, received, failedBy, nacked, turned, turnStore, beaten, triggered, cleared, haltOf, lengthOf, Counting, Meets};
+ghost use Rattle.channel.specs.Wires.{movedTo, onward, finished, startedBy, started, beganBy, begun, sendOn, ackAddress, ackSending, receiveOn, received, failedBy, nacked, turned, turnStore, beaten, triggered, cleared, haltOf, lengthOf, Counting, Meets};
 use crate::state::Channel;
 use crate::state::Head;
 use crate::state::Headed;

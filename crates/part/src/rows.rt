@@ -1,9 +1,8 @@
 // The part taken apart, for a caller that goes over many steps: the heads of its channels, and beside them their tables, each in an array with a row for
 // each channel. A row can be lent, where a table of a channel in the part can't.
-ghost use mathlib.Core.List.{List};
 ghost use mathlib.Core.Path.{_≡_};
-ghost use Prim.Native.Nat.{ℕ, _<_};
-ghost use Rattle.part.specs.Registers.{pendingOf, interruptOf};
+ghost use Prim.Native.Nat.{_<_};
+ghost use Rattle.part.specs.Registers.{pendingOf};
 ghost use Rattle.part.specs.Rows.{headAt, channelAt, gathered, ThreeRows, Spread, Pulls};
 use crate::registers::pending;
 use crate::registers::pulled;

@@ -1,6 +1,6 @@
 -- `bench::begin` meets its contract.
-use Rattle.part.specs.Laws.Kept.{fresh-part-in-range}
 use borrow.Author.Needs.{needs}
+use mathlib.Core.Path.{refl}
 use Rattle.bench.proofs.begin.Statement.{statement}
 use Rattle.bench.proofs.begin.Tie as tie
 
@@ -13,4 +13,4 @@ begin-spec =
     (λ c. λ κs. search needs)
     (λ c. λ κs. search needs)
     (λ c. search needs)
-    (λ c. rw (c .before .before .before .new .ensures) fresh-part-in-range))
+    (λ c. (c .before .before .before .new .ensures, refl, c .before .before .no-line .ensures)))

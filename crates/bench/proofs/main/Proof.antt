@@ -1,5 +1,6 @@
 -- `bench::main` meets its contract: each turn leaves what no. 9 asks.
 use Rattle.bench.specs.Laws.Blocks.{turned-whole}
+use Rattle.part.specs.Laws.Kept.{fresh-part-in-range}
 use Rattle.part.specs.Step.{Whole}
 use borrow.Author.Needs.{needs}
 use lib.ListN.{length}
@@ -23,7 +24,7 @@ main-spec =
     (λ c. λ κs. search needs)
     (λ c. search needs)
     (λ c. λ κs. search needs)
-    (λ c. (search needs, search needs, record { ranged = c .before .begin .ensures; whole = search needs }))
+    (λ c. (search needs, search needs, record { ranged = rw (c .before .begin .ensures .0) fresh-part-in-range; whole = search needs }))
     (λ c. search needs)
     (λ c. search needs)
     (λ c. search needs)

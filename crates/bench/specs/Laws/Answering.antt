@@ -34,7 +34,7 @@ use Rattle.bench.specs.declared.answering.Course.{Course}
 use Rattle.bench.specs.declared.answering.Rest.{Rest}
 use Rattle.bench.specs.Lines.{firstLf, lineEnd}
 use Rattle.bench.specs.Performing.{performed, performedBytes, aimOf, performedRest, restBytes, aimed, aimedBytes}
-use Rattle.bench.specs.Answering.{Run, lineAt, nextOf, replyOf, replied, oneLine, hasRoom, goesOn, answered}
+use Rattle.bench.specs.Answering.{Run, lineAt, nextOf, replyOf, oneLine, hasRoom, goesOn, answered}
 use Rattle.bench.specs.Laws.Lines.{end-after}
 use Rattle.bench.specs.Laws.Performing.{aimed-performed, aimed-bytes, performed-whole}
 

@@ -1,24 +1,16 @@
 -- A line does the same by whom it concerns as by its step, also where its channel is served in its place.
 use Prim.Native.Nat.{ℕ}
 use mathlib.Core.List.{List}
-use mathlib.Core.Path.{_≡_, refl, sym, _∙_, ap}
-use Rattle.channel.specs.declared.state.Stepped.{Stepped}
-use Rattle.channel.specs.declared.step.Op.{Op}
-use Rattle.channel.specs.Step.{servedBy}
+use mathlib.Core.Path.{_≡_, refl, sym, _∙_}
 use Rattle.part.specs.declared.state.Part.{Part}
-use Rattle.part.specs.declared.state.PartStepped.{PartStepped}
 use Rattle.part.specs.declared.map.Target.{Target}
 use Rattle.part.specs.declared.map.Target.the-variants.{One as OneTarget, All as AllTarget}
 use Rattle.part.specs.Map.{targetOf}
-use Rattle.part.specs.State.{chan, window}
-use Rattle.part.specs.Step.{oneTold, oneStep, oneBytes, partServed, partStored, Whole}
+use Rattle.part.specs.Step.{partServed, partStored, Whole}
 use Rattle.part.specs.Laws.Kept.{whole-kept}
 use Rattle.part.specs.Laws.Range.{whole-accepts, step-accepted, bytes-accepted}
 use Rattle.script.specs.declared.reading.Line.{Line}
 use Rattle.script.specs.declared.reading.Line.the-variants.{Readable, Unreadable}
-use Rattle.bench.specs.declared.answering.Rest.{Rest}
-use Rattle.bench.specs.declared.answering.Aim.{Aim}
-use Rattle.bench.specs.declared.answering.Aim.the-variants.{One, Others}
 use Rattle.bench.specs.Performing.{performed, performedBytes, aimAt, aimOf, aimed, aimedBytes}
 
 module _ (p : Part) (m : List ℕ) where

@@ -1,6 +1,5 @@
 -- A part that is taken apart is the same part, and stays it when one channel's head and rows are put anew.
 use Prim.Native.Nat.{ℕ, zero, suc, _<_}
-use mathlib.Core.Bool.{Bool}
 use mathlib.Core.List.{List, [], _∷_, map}
 use mathlib.Core.Path.{_≡_, refl, sym, _∙_, ap}
 use native.Mathlib.Nat.{not-suc-le-zero, le-of-suc-le-suc}
