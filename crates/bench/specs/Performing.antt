@@ -27,7 +27,7 @@ performedBytes p m Unreadable = m
 -- ---- the same by whom the line concerns, at a part and a memory that no. 9 does not refuse (`aimed-performed`, Laws/Performing.antt)
 
 abbrev pub aimAt : Target → Aim
-aimAt (OneTarget c op) = One c op
+aimAt (OneTarget op c) = One op c
 aimAt (AllTarget t) = Others (All t)
 
 abbrev pub aimOf : Line → Aim
@@ -35,7 +35,7 @@ aimOf (Readable s) = aimAt (targetOf s)
 aimOf Unreadable = Others Unread
 
 abbrev pub InAim : Aim → Type 0
-InAim (One c op) = c < 3
+InAim (One op c) = c < 3
 InAim (Others t) = Unit {0}
 
 abbrev pub performedRest : Part → Rest → PartStepped
@@ -47,9 +47,9 @@ restBytes p m (All t) = allStored p m t
 restBytes p m Unread = m
 
 abbrev pub aimed : Part → List ℕ → Aim → PartStepped
-aimed p m (One c op) = oneStep p m c op
+aimed p m (One op c) = oneStep p m c op
 aimed p m (Others t) = performedRest p t
 
 abbrev pub aimedBytes : Part → List ℕ → Aim → List ℕ
-aimedBytes p m (One c op) = oneBytes p m c op
+aimedBytes p m (One op c) = oneBytes p m c op
 aimedBytes p m (Others t) = restBytes p m t

@@ -32,7 +32,7 @@ enum Rest {
 
 // What a line asks for: a step of one channel, or something else.
 enum Aim {
-    One(u8, Op),
+    One(Op, u8),
     Others(Rest),
 }
 
@@ -41,7 +41,7 @@ fn aim_at(t: Target) -> Aim
     ensures { λ r. ⌜ (r ≡ aimAt t) × InAim r ⌝ }
 {
     match t {
-        Target::One(c, op) => Aim::One(c, op),
+        Target::One(op, c) => Aim::One(op, c),
         Target::All(w) => Aim::Others(Rest::All(w)),
     }
 }
@@ -113,7 +113,7 @@ pub(crate) fn answer_lines(s: Course, block: &[u8], mem: &mut [u8], out: &mut [u
         let a = aim_of(l);
         let mut answer = script::unreadable();
         match a {
-            Aim::One(c, op) => {
+            Aim::One(op, c) => {
                 let i = c as usize;
                 let start = 4352 * i;
                 let till = start + 4352;

@@ -23,12 +23,13 @@ pub struct Channel {
     pub key: bool,
 }
 
-// A channel without its tables. A step takes it by value and has the tables lent, so that no table is copied from call to call. The order leaves no gap.
+// A channel without its tables. A step takes it by value and has the tables lent, so that no table is copied from call to call. Of the orders
+// of its fields this one is the quickest.
 pub struct Head {
-    pub flags: Flags,
-    pub ptrs: Ptrs,
-    pub walk: Walk,
     pub regs: Regs,
+    pub ptrs: Ptrs,
+    pub flags: Flags,
+    pub walk: Walk,
     pub key: bool,
 }
 

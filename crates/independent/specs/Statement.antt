@@ -32,11 +32,11 @@ Accepted s = accepts (s .part) (length (s .memory)) ≡ true
 -- a step of channel c; there is none where the step is one of the whole part
 pub record OfChannel (c : ℕ) (a : Step) : Type 0 where
   pub op : Op
-  pub is : targetOf a ≡ One c op
+  pub is : targetOf a ≡ One op c
 
 -- the channel that a step is of, and 3 where it is one of the whole part
 abbrev pub ownerOf : Target → ℕ
-ownerOf (One c op) = c
+ownerOf (One op c) = c
 ownerOf (All t) = 3
 
 -- the part as a machine, by the rules that its step is proved to follow; an answer is a number, a value and an action for each channel

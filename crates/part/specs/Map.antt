@@ -28,15 +28,15 @@ ctrlAt a =
 
 -- a write: of the channel whose address it is, or of the whole part
 unfoldable pub writeTarget : ℕ → ℕ → Target
-writeTarget a v = if ltb (channelAt a) 3 then One (channelAt a) (WriteOp a v) else All (CtrlWrite (ctrlAt a) v)
+writeTarget a v = if ltb (channelAt a) 3 then One (WriteOp a v) (channelAt a) else All (CtrlWrite (ctrlAt a) v)
 
 -- a read, in the same way
 unfoldable pub readTarget : ℕ → Target
-readTarget a = if ltb (channelAt a) 3 then One (channelAt a) (ReadOp a) else All (CtrlRead (ctrlAt a))
+readTarget a = if ltb (channelAt a) 3 then One (ReadOp a) (channelAt a) else All (CtrlRead (ctrlAt a))
 
 -- an event of a channel above 2 concerns none
 unfoldable pub wireTarget : ℕ → Event → Target
-wireTarget c e = if ltb c 3 then One c (WireOp e) else All Beyond
+wireTarget c e = if ltb c 3 then One (WireOp e) c else All Beyond
 
 -- whole-part steps: trigger, hardware reset, addresses F0h to FFh, events for a channel above 2; all others are channel steps
 unfoldable pub targetOf : Step → Target
@@ -48,5 +48,5 @@ targetOf Reset = All AllReset
 
 -- a channel that a step concerns is 0, 1 or 2
 abbrev pub InPart : Target → Type 0
-InPart (One c op) = c < 3
+InPart (One op c) = c < 3
 InPart (All t) = Unit {0}

@@ -106,11 +106,11 @@ allStored p m Beyond = m
 
 -- ---- whom the step concerns
 unfoldable pub partServed : Part → List ℕ → Target → PartStepped
-partServed p m (One c op) = oneStep p m c op
+partServed p m (One op c) = oneStep p m c op
 partServed p m (All t) = allServed p t
 
 unfoldable pub partStored : Part → List ℕ → Target → List ℕ
-partStored p m (One c op) = oneBytes p m c op
+partStored p m (One op c) = oneBytes p m c op
 partStored p m (All t) = allStored p m t
 
 -- ---- no. 9: lent memory not 13,056 bytes, or a state out of range

@@ -36,7 +36,7 @@ pub enum Common {
 
 // Whom a step concerns: one channel, or all.
 pub enum Target {
-    One(u8, Op),
+    One(Op, u8),
     All(Common),
 }
 
@@ -71,7 +71,7 @@ fn write_target(a: u8, v: u8) -> Target
 {
     let c = channel_at(a);
     if c < 3 {
-        Target::One(c, Op::Write(a, v))
+        Target::One(Op::Write(a, v), c)
     } else {
         Target::All(Common::CtrlWrite(ctrl_at(a), v))
     }
@@ -82,7 +82,7 @@ fn read_target(a: u8) -> Target
 {
     let c = channel_at(a);
     if c < 3 {
-        Target::One(c, Op::Read(a))
+        Target::One(Op::Read(a), c)
     } else {
         Target::All(Common::CtrlRead(ctrl_at(a)))
     }
@@ -92,7 +92,7 @@ fn wire_target(c: u8, e: Event) -> Target
     ensures { λ r. ⌜ (r ≡ wireTarget c e) × InPart r ⌝ }
 {
     if c < 3 {
-        Target::One(c, Op::Wire(e))
+        Target::One(Op::Wire(e), c)
     } else {
         Target::All(Common::Beyond)
     }

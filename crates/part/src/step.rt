@@ -143,7 +143,7 @@ impl Part {
         ensures { λ r. ⌜ (r ≡ partServed self (now (mem .entry)) t) × (now (mem .exit) ≡ partStored self (now (mem .entry)) t) ⌝ }
     {
         match t {
-            Target::One(c, op) => self.one(mem, c, op),
+            Target::One(op, c) => self.one(mem, c, op),
             Target::All(w) => self.serve_all(mem, w),
         }
     }

@@ -51,12 +51,11 @@ fn counting(p: Phase, te: bool, framecnt: u8) -> bool
     }
 }
 
-fn ended_in(p: Phase, te: bool, framecnt: u8, ended: usize) -> bool
+fn ended_in(p: Phase, te: bool, framecnt: u8, ended: u8) -> bool
     ensures { λ r. ⌜ r ≡ endedIn p te framecnt ended ⌝ }
 {
-    let all = framecnt as usize;
     if counting(p, te, framecnt) {
-        ended < all
+        ended < framecnt
     } else {
         ended == 0
     }

@@ -42,7 +42,7 @@ pub struct Ptrs {
 // The phase, the number of frames ended since STA, the recorded STO, STOSEQ and FE, and a noted error end.
 pub struct Walk {
     pub phase: Phase,
-    pub ended: usize,
+    pub ended: u8,
     pub sto: bool,
     pub seq: bool,
     pub fe: bool,

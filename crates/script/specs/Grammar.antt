@@ -19,7 +19,7 @@ isHex b = if ltb b 58 then leb 48 b else if ltb b 71 then leb 65 b else false
 
 -- the value of a hex digit, and 0 of any other byte
 unfoldable pub hexOf : ℕ → ℕ
-hexOf b = if ltb b 48 then 0 else if ltb b 58 then b - 48 else if ltb b 65 then 0 else if ltb b 71 then b - 55 else 0
+hexOf b = if isHex b then (if ltb b 58 then b - 48 else b - 55) else 0
 
 -- the value of the digit at place i of a line
 abbrev pub digitAt : List ℕ → ℕ → ℕ

@@ -27,14 +27,8 @@ fn is_hex(b: u8) -> bool
 fn hex(b: u8) -> u8
     ensures { λ r. ⌜ (r ≡ hexOf b) × (r < 16) ⌝ }
 {
-    if b < 48 {
-        0
-    } else if b < 58 {
-        b - 48
-    } else if b < 65 {
-        0
-    } else if b < 71 {
-        b - 55
+    if is_hex(b) {
+        if b < 58 { b - 48 } else { b - 55 }
     } else {
         0
     }

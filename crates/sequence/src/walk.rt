@@ -21,7 +21,7 @@ pub fn idle_walk() -> Walk
     }
 }
 
-pub fn waiting_walk(ended: usize) -> Walk
+pub fn waiting_walk(ended: u8) -> Walk
     ensures { λ r. ⌜ r ≡ waiting ended ⌝ }
 {
     Walk {

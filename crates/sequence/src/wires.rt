@@ -98,7 +98,7 @@ pub enum Ending {
     Fe,
     Error,
     Sd,
-    Wait(usize),
+    Wait(u8),
 }
 
 // What is left of a write to CONTROL after TP, TE and the pointer resets.
@@ -361,7 +361,7 @@ pub fn begins(count: usize, fit: bool) -> Beginning
     }
 }
 
-pub fn rest(te: bool, framecnt: u8, ended: usize) -> Ending
+pub fn rest(te: bool, framecnt: u8, ended: u8) -> Ending
     ensures { λ r. ⌜ r ≡ restOf te framecnt ended ⌝ }
 {
     if te {
@@ -370,7 +370,7 @@ pub fn rest(te: bool, framecnt: u8, ended: usize) -> Ending
     if framecnt == 0 {
         return Ending::Wait(0);
     }
-    let last = framecnt as usize - 1;
+    let last = framecnt - 1;
     if ended < last {
         Ending::Wait(ended + 1)
     } else {

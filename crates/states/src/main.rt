@@ -793,7 +793,7 @@ fn walk_of(k: [usize; 32]) -> Walk {
     let phase = phase_of(k[28], k[29]);
     Walk {
         phase,
-        ended: k[6],
+        ended: byte(k[6]),
         sto: k[9] == 1,
         seq: k[10] == 1,
         fe: k[11] == 1,

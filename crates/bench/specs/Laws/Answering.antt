@@ -77,7 +77,7 @@ pub record Does (p : Part) (m : List ℕ) (l : Line) (h : Heads) (sla lens s k s
 
 module _ (p : Part) (m : List ℕ) (h : Heads) (sla lens s k set′ : List (List ℕ)) (w : Spread p h sla lens s k set′) (y : Whole p m) (a : Aim) (l : Line) (g : a ≡ aimOf l) where
   -- a line of channel c
-  pub does-one : (c : ℕ) (op : Op) (r : Headed) (x₁ x₂ x₃ x₄ x₅ : List ℕ) (t : Told) (n : List ℕ) → c < 3 → a ≡ One c op
+  pub does-one : (c : ℕ) (op : Op) (r : Headed) (x₁ x₂ x₃ x₄ x₅ : List ℕ) (t : Told) (n : List ℕ) → c < 3 → a ≡ One op c
       → rejoined r x₁ x₂ x₃ x₄ x₅ ≡ servedBy (channelAt h sla lens s k set′ c) (window c m) c op
       → t ≡ toldBy (h .be) (h .key) c op (r .answer)
       → n ≡ putWindow c (servedStore (channelAt h sla lens s k set′ c) (window c m) c op) m
@@ -85,7 +85,7 @@ module _ (p : Part) (m : List ℕ) (h : Heads) (sla lens s k set′ : List (List
       (set sla c x₁) (set lens c x₂) (set s c x₃) (set k c x₄) (set set′ c x₅) (t .answer) n
   unfolding oneBytes
   does-one c op r x₁ x₂ x₃ x₄ x₅ t n q e does tells b =
-      let u : aimOf l ≡ One c op = sym g ∙ e in
+      let u : aimOf l ≡ One op c = sym g ∙ e in
       let v : oneStep p m c op ≡ performed p m l = ap (aimed p m) (sym u) ∙ aimed-performed p m l y in
       record {
         spread = rw (← v) (one-spread p h sla lens s k set′ w m c op r x₁ x₂ x₃ x₄ x₅ t q does tells);

@@ -16,12 +16,12 @@ use Rattle.bench.specs.Performing.{performed, performedBytes, aimAt, aim
 module _ (p : Part) (m : List ℕ) where
   aimed-served : (t : Target) → aimed p m (aimAt t) ≡ partServed p m t
   unfolding partServed
-  aimed-served (OneTarget c op) = refl
+  aimed-served (OneTarget op c) = refl
   aimed-served (AllTarget t) = refl
 
   aimed-stored : (t : Target) → aimedBytes p m (aimAt t) ≡ partStored p m t
   unfolding partStored
-  aimed-stored (OneTarget c op) = refl
+  aimed-stored (OneTarget op c) = refl
   aimed-stored (AllTarget t) = refl
 
   pub aimed-performed : (l : Line) → Whole p m → aimed p m (aimOf l) ≡ performed p m l

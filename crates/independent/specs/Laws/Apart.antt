@@ -18,7 +18,7 @@ use Rattle.independent.specs.Laws.One.{afterOne, answerOne, one-kept, on
 pub record Single (a : Step) : Type 0 where
   pub c : ℕ
   pub op : Op
-  pub is : targetOf a ≡ One c op
+  pub is : targetOf a ≡ One op c
 
 below : (a : Step) (x : Single a) → x .c < 3
 below a x = one-in-part a (x .c) (x .op) (x .is)

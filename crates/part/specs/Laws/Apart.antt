@@ -36,7 +36,7 @@ module _ (p : Part) (m : List ℕ) (c : ℕ) (op : Op) where
     mask = refl;
   }
 
-  module _ (s : Step) (is : targetOf s ≡ One c op) where
+  module _ (s : Step) (is : targetOf s ≡ One op c) where
     served-others : length m ≡ 13056 → Others c p m (partServed p m (targetOf s) .part) (partStored p m (targetOf s))
     unfolding partServed partStored
     served-others whole = rw is (one-others whole (one-in-part s c op is))

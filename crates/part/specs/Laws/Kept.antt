@@ -109,7 +109,7 @@ module _ (p : Part) (h : In p) where
 
   served-in : (m : List ℕ) (t : Target) → Good (partServed p m t)
   unfolding partServed
-  served-in m (One c op) = one-in m c op
+  served-in m (One op c) = one-in m c op
   served-in m (All t) = all-in t
 
 -- a channel's step does not
@@ -159,7 +159,7 @@ module _ (p : Part) (m : List ℕ) (whole : length m ≡ 13056) where
 
   stored-length : (t : Target) → InPart t → Same m (partStored p m t)
   unfolding partStored Same
-  stored-length (One c op) h = one-bytes-length c op h
+  stored-length (One op c) h = one-bytes-length c op h
   stored-length (All t) h = all-length t
 
 pub part-length : (p : Part) (m : List ℕ) (s : Step) → length (partBytes p m s) ≡ length m

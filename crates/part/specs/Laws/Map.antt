@@ -18,5 +18,5 @@ in-part (Wire c e) = pick-holds InPart (ltb c 3) (λ t. ltb-true _ _ t) (λ _. t
 in-part (Trigger edge) = tt
 in-part Reset = tt
 
-pub one-in-part : (s : Step) (c : ℕ) (op : Op) → targetOf s ≡ One c op → c < 3
+pub one-in-part : (s : Step) (c : ℕ) (op : Op) → targetOf s ≡ One op c → c < 3
 one-in-part s c op e = subst InPart e (in-part s)

@@ -6,10 +6,13 @@ use Prim.Native.Nat.{ℕ, _+_, _<_, _≤_}
 use native.Mathlib.Numerals.{add-one}
 use native.Mathlib.Omega.{arith}
 use borrow.Author.Needs.{needs}
+use borrow.Author.Tests.{lt-ltb, le-ltb, ltb-true, leb-true}
+use lib.Dec.{leb, ltb}
 use lib.ListN.{length, getD, drop, drop-of-length-le, List·getD-eq-default}
 use lib.Seq.{drop-cons}
 use Rattle.laws.specs.Pick.{if_then_else_}
-use Rattle.script.specs.Grammar.{hexOf, digitAt, suiting, fitting}
+use Rattle.laws.specs.Cases.{both}
+use Rattle.script.specs.Grammar.{isHex, hexOf, digitAt, suiting, fitting}
 use Rattle.script.specs.Laws.Grammar.{fit-length}
 
 pub fit-all : (f l : List ℕ) (i : ℕ) → length f ≡ length l → fitting f l ≡ fitting (drop i f) (drop i l) → length f ≤ i → true ≡ fitting f l
@@ -34,8 +37,19 @@ module _ (f l : List ℕ) (i : ℕ) (r b : Bool) (e : length f ≡ length l) (p 
   unfolding if_then_else_
   fit-not t = sym (rw t at opened)
 
+-- ---- a hex digit is 0 or above, or A to F
+pub hex-low : (b : ℕ) → isHex b ≡ true → b < 58 → 48 ≤ b
+unfolding isHex if_then_else_
+hex-low b e h = leb-true 48 b (rw (lt-ltb b 58 h) at e)
+
+pub hex-high : (b : ℕ) → isHex b ≡ true → 58 ≤ b → (65 ≤ b) × (b < 71)
+unfolding isHex if_then_else_
+hex-high b e h =
+    let t = both (ltb b 71) (leb 65 b) (rw (le-ltb b 58 h) at e) in
+    (leb-true 65 b (t .1), ltb-true b 71 (t .0))
+
 pub digit-past : (l : List ℕ) (i : ℕ) → length l ≤ i → 0 ≡ digitAt l i
-unfolding hexOf if_then_else_
+unfolding hexOf isHex if_then_else_
 digit-past l i h = rw (List·getD-eq-default l 0 h)
 
 pub ruleset fit = (fit-length, fit-all, fit-more, fit-not, digit-past, needs)
