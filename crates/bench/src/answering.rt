@@ -103,7 +103,14 @@ pub(crate) fn answer_lines(s: Course, block: &[u8], mem: &mut [u8], out: &mut [u
     let mut status = [[0u8; 64]; 3];
     let mut counts = [[0u8; 64]; 3];
     let mut settings = [[0u8; 6]; 3];
-    let mut heads = p.spread(&mut sla, &mut lens, &mut status, &mut counts, &mut settings);
+    let mut heads = rows::spread(
+        p,
+        &mut sla,
+        &mut lens,
+        &mut status,
+        &mut counts,
+        &mut settings,
+    );
     let mut step = s.step;
     let mut from = s.from;
     let mut at = s.at;
@@ -142,7 +149,14 @@ pub(crate) fn answer_lines(s: Course, block: &[u8], mem: &mut [u8], out: &mut [u
                 let r = perform(whole, mem, t);
                 let after = r.part;
                 let reply = r.answer;
-                heads = after.spread(&mut sla, &mut lens, &mut status, &mut counts, &mut settings);
+                heads = rows::spread(
+                    after,
+                    &mut sla,
+                    &mut lens,
+                    &mut status,
+                    &mut counts,
+                    &mut settings,
+                );
                 answer = reply;
             }
         }

@@ -1,4 +1,5 @@
 pub mod Pick
 pub mod Cases
+pub mod Fill
 pub mod Sets
 pub mod Windows

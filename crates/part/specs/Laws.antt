@@ -6,4 +6,3 @@ pub mod Memory
 pub mod Range
 pub mod Kept
 pub mod Apart
-pub mod Rows

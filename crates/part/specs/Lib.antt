@@ -2,5 +2,4 @@ pub mod State
 pub mod Map
 pub mod Registers
 pub mod Step
-pub mod Rows
 pub mod Laws

@@ -1,7 +1,6 @@
 // The PCA9663: three channels over one lent memory.
 mod map;
 mod registers;
-mod rows;
 mod state;
 mod step;
 
@@ -9,7 +8,8 @@ pub use map::Common;
 pub use map::Step;
 pub use map::Target;
 pub use map::target_of;
-pub use rows::Heads;
+pub use registers::pending;
+pub use registers::pulled;
 pub use state::Act;
 pub use state::Part;
 pub use state::PartAnswer;

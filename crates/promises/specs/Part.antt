@@ -2,20 +2,19 @@
 -- letter by letter: a lent slice `mem` is written for its bytes at entry, and `mem′` for those at exit.
 use Prim.Native.Nat.{ℕ}
 use mathlib.Core.Bool.{Bool}
-use mathlib.Core.List.{List, []}
+use mathlib.Core.List.{List}
 use mathlib.Core.Path.{_≡_}
+use Rattle.rules.specs.declared.state.Flags.{Flags}
 use Rattle.channel.specs.declared.state.Answer.{Answer}
 use Rattle.channel.specs.declared.step.Op.{Op}
 use Rattle.part.specs.declared.map.Common.{Common}
 use Rattle.part.specs.declared.map.Step.{Step}
 use Rattle.part.specs.declared.map.Target.{Target}
-use Rattle.part.specs.declared.rows.Heads.{Heads}
 use Rattle.part.specs.declared.state.Part.{Part}
 use Rattle.part.specs.declared.state.PartStepped.{PartStepped}
 use Rattle.part.specs.declared.state.Told.{Told}
 use Rattle.part.specs.Map.{targetOf, InPart}
-use Rattle.part.specs.Registers.{interruptOf}
-use Rattle.part.specs.Rows.{gathered, Spread, Pulls}
+use Rattle.part.specs.Registers.{interruptOf, pendingOf, pulledBy}
 use Rattle.part.specs.State.{freshPart}
 use Rattle.part.specs.Step.{toldBy, allServed, allStored, partIn, partStep, partBytes}
 use Rattle.promises.specs.Promise.{Once, no-second, both}
@@ -25,26 +24,14 @@ pub target-of-once : (s : Step) → Once Target (λ r. (r ≡ targetOf s) × InP
 target-of-once s = no-second (λ r h. h .0)
 
 -- ---- registers.rt
+pub pending-once : (f : Flags) (mask : ℕ) → Once Bool (λ r. r ≡ pendingOf f mask)
+pending-once f mask = no-second (λ r h. h)
+
+pub pulled-once : (be : Bool) (mask : ℕ) (first second third : Bool) → Once Bool (λ r. r ≡ pulledBy be mask first second third)
+pulled-once be mask first second third = no-second (λ r h. h)
+
 pub interrupt-once : (self : Part) → Once Bool (λ r. r ≡ interruptOf self)
 interrupt-once self = no-second (λ r h. h)
-
--- ---- rows.rt
-pub spread-once : (self : Part) (sla lens status counts settings : List (List ℕ)) → Once (Heads × List (List ℕ) × List (List ℕ) × List (List ℕ) × List (List ℕ) × List (List ℕ)) (λ (r, sla′, lens′, status′, counts′, settings′). Spread self r sla′ lens′ status′ counts′ settings′)
-spread-once self sla lens status counts settings =
-    no-second (λ o h. λ i. (
-      record { channels = h .heads i; be = h .be i; mask = h .mask i; key = h .key i },
-      h .slas i,
-      h .lengths i,
-      h .statuses i,
-      h .counts i,
-      h .stored i,
-    ))
-
-pub gather-once : (self : Heads) (sla lens status counts settings : List (List ℕ)) → Once Part (λ r. r ≡ gathered self sla lens status counts settings)
-gather-once self sla lens status counts settings = no-second (λ r h. h)
-
-pub interrupt-level-once : (self : Heads) → Once Bool (λ r. Pulls self r)
-interrupt-level-once self = no-second (λ r h. h [] [] [] [] [])
 
 -- ---- state.rt
 pub new-once : Once Part (λ r. r ≡ freshPart)

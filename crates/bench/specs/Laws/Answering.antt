@@ -19,12 +19,12 @@ use Rattle.part.specs.declared.state.Part.{Part}
 use Rattle.part.specs.declared.state.PartAnswer.{PartAnswer}
 use Rattle.part.specs.declared.state.PartStepped.{PartStepped}
 use Rattle.part.specs.declared.state.Told.{Told}
-use Rattle.part.specs.declared.rows.Heads.{Heads}
+use Rattle.rows.specs.declared.Heads.{Heads}
 use Rattle.part.specs.Registers.{interruptOf}
-use Rattle.part.specs.Rows.{channelAt, gathered, Spread}
+use Rattle.rows.specs.Rows.{channelAt, gathered, Spread}
 use Rattle.part.specs.State.{window, putWindow}
 use Rattle.part.specs.Step.{toldBy, oneStep, oneBytes, Whole}
-use Rattle.part.specs.Laws.Rows.{spread-at, gathered-spread, one-spread, one-answer}
+use Rattle.rows.specs.Laws.{spread-at, gathered-spread, one-spread, one-answer}
 use Rattle.script.specs.declared.reading.Line.{Line}
 use Rattle.script.specs.Answer.{Put, textIf, roomy, answerLine}
 use Rattle.script.specs.Grammar.{lineOf}

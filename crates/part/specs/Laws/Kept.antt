@@ -117,11 +117,6 @@ pub one-in-range : (p : Part) (m : List ℕ) (c : ℕ) (op : Op) → partIn p �
 unfolding Good
 one-in-range p m c op e = of-in _ (one-in p (in-of p e) m c op)
 
--- nor does a step of the whole part
-pub all-in-range : (p : Part) (t : Common) → partIn p ≡ true → partIn (allServed p t .part) ≡ true
-unfolding Good
-all-in-range p t e = of-in _ (all-in p (in-of p e) t)
-
 -- NO STEP LEADS OUT OF RANGE
 pub part-stays-in-range : (p : Part) (m : List ℕ) (s : Step) → partIn p ≡ true → partIn (partStep p m s .part) ≡ true
 unfolding partStep Good
@@ -149,7 +144,7 @@ module _ (p : Part) (m : List ℕ) (whole : length m ≡ 13056) where
   unfolding oneBytes
   one-bytes-length c op h = length-put c _ m (one-length c op h) (fits c m h whole)
 
-  pub all-length : (t : Common) → length (allStored p m t) ≡ length m
+  all-length : (t : Common) → length (allStored p m t) ≡ length m
   unfolding allStored ctrlStore Same
   all-length (CtrlWrite reg v) = pick-holds (Same m) (resetsOf (ctrlpresetOf reg) v (p .key)) (λ _. wiped-length ∙ sym whole) (λ _. refl)
   all-length (CtrlRead reg) = refl
@@ -176,9 +171,3 @@ whole-kept p m s w = record { ranged = part-stays-in-range p m s (w .ranged); wh
 -- and its channels are accepted, each with its own bytes
 pub chan-accepted : (p : Part) (m : List ℕ) (c : ℕ) → c < 3 → Whole p m → Accepted (chan p c) (window c m)
 chan-accepted p m c h w = record { ranged = chan-in-range p c (w .ranged); whole = length-window c m (fits c m h (w .whole)) }
-
-pub one-whole : (p : Part) (m : List ℕ) (c : ℕ) (op : Op) → c < 3 → Whole p m → Whole (oneStep p m c op .part) (oneBytes p m c op)
-one-whole p m c op h w = record { ranged = one-in-range p m c op (w .ranged); whole = one-bytes-length p m (w .whole) c op h ∙ w .whole }
-
-pub all-whole : (p : Part) (m : List ℕ) (t : Common) → Whole p m → Whole (allServed p t .part) (allStored p m t)
-all-whole p m t w = record { ranged = all-in-range p t (w .ranged); whole = all-length p m (w .whole) t ∙ w .whole }

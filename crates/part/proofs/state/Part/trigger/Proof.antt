@@ -3,7 +3,8 @@ use Prim.Native.Nat.{_-_, _<_, _≤_}
 use Rattle.channel.specs.Range.{inRange}
 use Rattle.channel.specs.Wires.{triggered}
 use Rattle.channel.specs.declared.state.Channel.{Channel}
-use Rattle.part.proofs.Laws.Fill.{edge-more, filled, filled-all, filled-at, filled-more}
+use Rattle.laws.specs.Fill.{filled, filled-all, filled-at, filled-more}
+use Rattle.part.proofs.Laws.Edge.{edge-more}
 use Rattle.part.specs.Laws.Range.{channels-of, each-in}
 use Rattle.part.specs.State.{blank}
 use Rattle.part.specs.Step.{edgeAct, edgeBe, edgeChannel, triggerStep}

@@ -1,17 +1,12 @@
 -- A loop that goes over an array and puts f of element i into place i of a second array, or of the same one: after i turns that one is
 -- `filled f i l n`, the images of the first i elements and then the rest as it was.
 use Prim.Native.Nat.{ℕ, zero, suc, _+_, _<_, _≤_}
-use mathlib.Core.Bool.{Bool}
-use mathlib.Core.Path.{_≡_, refl, _∙_, ap}
+use mathlib.Core.Path.{_≡_, refl, ap}
 use mathlib.Core.List.{List, [], _∷_, _++_, map, append-nil}
 use native.Mathlib.Nat.{not-suc-le-zero, le-of-suc-le-suc}
 use native.Mathlib.Numerals.{add-one}
 use lib.ListN.{length, getD, set, take, drop, drop-of-length-le}
-use lib.Seq.{take-all, drop-cons}
-use Rattle.sequence.specs.declared.wires.Edge.{Edge}
-use Rattle.channel.specs.declared.state.Channel.{Channel}
-use Rattle.channel.specs.Wires.{triggered}
-use Rattle.part.specs.Step.{beAfter, edgeBe}
+use lib.Seq.{take-all}
 
 abbrev pub filled : {A B : Type 0} → (A → B) → ℕ → List A → List B → List B
 filled f i l n = map f (take i l) ++ drop i n
@@ -36,7 +31,3 @@ filled-at f (suc i) (x ∷ l) d h = filled-at f i l d (le-of-suc-le-suc h)
 -- all
 pub filled-all : {A B : Type 0} (f : A → B) (i : ℕ) (l : List A) (n : List B) → length l ≤ i → length n ≤ i → filled f i l n ≡ map f l
 filled-all {A} {B} f i l n h k = rw (drop-of-length-le n k, take-all i l h) (append-nil (map f l))
-
--- BE after one more channel
-pub edge-more : (edge : Edge) (be : Bool) (l : List Channel) (i : ℕ) (d : Channel) → i < length l → edgeBe edge be (drop i l) ≡ edgeBe edge (beAfter be (triggered (getD l i d) edge .answer .number)) (drop (i + 1) l)
-edge-more edge be l i d h = ap (edgeBe edge be) (drop-cons l i d h) ∙ rw (add-one i)

@@ -2,13 +2,13 @@
 // each channel. A row can be lent, where a table of a channel in the part can't.
 ghost use mathlib.Core.Path.{_≡_};
 ghost use Prim.Native.Nat.{_<_};
 ghost use Rattle.part.specs.Registers.{pendingOf};
-ghost use Rattle.part.specs.Rows.{headAt, channelAt, gathered, ThreeRows, Spread, Pulls};
-use crate::registers::pending;
-use crate::registers::pulled;
-use crate::state::Part;
+ghost use Rattle.rows.specs.Rows.{headAt, channelAt, gathered, ThreeRows, Spread, Pulls};
 use channel::Channel;
 use channel::Head;
+use part::Part;
+use part::pending;
+use part::pulled;
 
 // The part without its channels' tables.
 pub struct Heads {
@@ -18,46 +18,44 @@ pub struct Heads {
     pub key: bool,
 }
 
-impl Part {
-    // Takes the part apart: puts the tables of channel c into row c.
-    pub fn spread<'a>(
-        self,
-        sla: &'a mut [[u8; 64]; 3],
-        lens: &'a mut [[u8; 65]; 3],
-        status: &'a mut [[u8; 64]; 3],
-        counts: &'a mut [[u8; 64]; 3],
-        settings: &'a mut [[u8; 6]; 3],
-    ) -> Heads
-        requires { ⌜ ThreeRows (now sla) (now lens) (now status) (now counts) (now settings) ⌝ }
-        ensures { λ r. ⌜ Spread self r (now (sla .exit)) (now (lens .exit)) (now (status .exit)) (now (counts .exit)) (now (settings .exit)) ⌝ }
-    {
-        let channels = self.channels;
-        let first = channels[0];
-        let h = first.head();
-        let mut heads = [h, h, h];
-        let mut i = 0;
-        while i < 3 {
-            let s = channels[i];
-            let head = s.head();
-            heads[i] = head;
-            let slatable = s.slatable;
-            sla[i] = slatable;
-            let tranconfig = s.tranconfig;
-            lens[i] = tranconfig;
-            let statuses = s.status;
-            status[i] = statuses;
-            let bytecount = s.bytecount;
-            counts[i] = bytecount;
-            let stored = s.settings;
-            settings[i] = stored;
-            i += 1;
-        }
-        Heads {
-            channels: heads,
-            be: self.be,
-            mask: self.mask,
-            key: self.key,
-        }
+// Takes the part apart: puts the tables of channel c into row c.
+pub fn spread<'a>(
+    part: Part,
+    sla: &'a mut [[u8; 64]; 3],
+    lens: &'a mut [[u8; 65]; 3],
+    status: &'a mut [[u8; 64]; 3],
+    counts: &'a mut [[u8; 64]; 3],
+    settings: &'a mut [[u8; 6]; 3],
+) -> Heads
+    requires { ⌜ ThreeRows (now sla) (now lens) (now status) (now counts) (now settings) ⌝ }
+    ensures { λ r. ⌜ Spread part r (now (sla .exit)) (now (lens .exit)) (now (status .exit)) (now (counts .exit)) (now (settings .exit)) ⌝ }
+{
+    let channels = part.channels;
+    let first = channels[0];
+    let h = first.head();
+    let mut heads = [h, h, h];
+    let mut i = 0;
+    while i < 3 {
+        let s = channels[i];
+        let head = s.head();
+        heads[i] = head;
+        let slatable = s.slatable;
+        sla[i] = slatable;
+        let tranconfig = s.tranconfig;
+        lens[i] = tranconfig;
+        let statuses = s.status;
+        status[i] = statuses;
+        let bytecount = s.bytecount;
+        counts[i] = bytecount;
+        let stored = s.settings;
+        settings[i] = stored;
+        i += 1;
+    }
+    Heads {
+        channels: heads,
+        be: part.be,
+        mask: part.mask,
+        key: part.key,
     }
 }
 

@@ -1,9 +1,8 @@
--- `part::rows::Heads::interrupt_level` meets its contract.
+-- `rows::Heads::interrupt_level` meets its contract.
 use Rattle.part.specs.Registers.{interruptOf}
 use borrow.Author.Needs.{needs}
-use lib.ListN.{set}
-use Rattle.part.proofs.rows.Heads.interrupt_level.Statement.{statement}
-use Rattle.part.proofs.rows.Heads.interrupt_level.Tie as tie
+use Rattle.rows.proofs.Heads.interrupt_level.Statement.{statement}
+use Rattle.rows.proofs.Heads.interrupt_level.Tie as tie
 
 pub interrupt-level-spec : {M : Type 1} → statement M
 unfolding interruptOf

@@ -7,10 +7,10 @@ use lib.ListN.{length, getD}
 use Rattle.channel.specs.declared.state.Channel.{Channel}
 use Rattle.channel.specs.declared.state.Head.{Head}
 use Rattle.channel.specs.Head.{joined, headOf}
 use Rattle.part.specs.declared.state.Part.{Part}
-use Rattle.part.specs.declared.rows.Heads.{Heads}
+use Rattle.rows.specs.declared.Heads.{Heads}
 use Rattle.part.specs.State.{blank}
 use Rattle.part.specs.Registers.{interruptOf}
 
 -- the head of channel c
 abbrev pub headAt : Heads → ℕ → Head

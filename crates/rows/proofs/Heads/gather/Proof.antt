@@ -1,7 +1,7 @@
--- `part::rows::Heads::gather` meets its contract.
+-- `rows::Heads::gather` meets its contract.
 use borrow.Author.Needs.{needs}
-use Rattle.part.proofs.rows.Heads.gather.Statement.{statement}
-use Rattle.part.proofs.rows.Heads.gather.Tie as tie
+use Rattle.rows.proofs.Heads.gather.Statement.{statement}
+use Rattle.rows.proofs.Heads.gather.Tie as tie
 
 pub gather-spec : {M : Type 1} → statement M
 gather-spec =

@@ -12,12 +12,12 @@ use Rattle.channel.specs.declared.state.Stepped.{Stepped}
 use Rattle.channel.specs.declared.step.Op.{Op}
 use Rattle.channel.specs.Head.{joined, rejoined, headOf}
 use Rattle.channel.specs.Step.{servedBy}
 use Rattle.part.specs.declared.state.Part.{Part}
 use Rattle.part.specs.declared.state.Told.{Told}
-use Rattle.part.specs.declared.rows.Heads.{Heads}
+use Rattle.rows.specs.declared.Heads.{Heads}
 use Rattle.part.specs.State.{blank, chan, window}
 use Rattle.part.specs.Step.{toldBy, oneAfter, oneTold, oneStep}
-use Rattle.part.specs.Rows.{channelAt, gathered, ThreeRows, Spread}
+use Rattle.rows.specs.Rows.{channelAt, gathered, ThreeRows, Spread}
 
 -- ---- lists
 map-set : {A B : Type 0} (f : A → B) (l : List A) (i : ℕ) (x : A) → set (map f l) i (f x) ≡ map f (set l i x)
