@@ -1,9 +1,9 @@
 // The lines of a block: where each ends, and what is kept of one that the block does not end.
 ghost use mathlib.Core.Path.{_≡_};
-ghost use Prim.Native.Nat.{_+_, _-_, _≤_};
-ghost use lib.ListN.{length, take, drop};
+ghost use Prim.Native.Nat.{_-_, _≤_};
+ghost use lib.ListN.{length, take};
 ghost use lib.Seq.{sets};
-ghost use Rattle.bench.specs.Lines.{noLine, withByte, lengthened, keptOf, firstLf, lineEnd};
+ghost use Rattle.bench.specs.Lines.{noLine, withByte, lengthened, keptOf, lineEnd};
 
 // The line that is being read: its first twelve bytes, since no line of more than eleven can be read.
 pub(crate) struct Start {
@@ -64,26 +64,6 @@ pub(crate) fn put_start(bytes: [u8; 12], n: usize, block: &mut [u8]) -> usize
     at
 }
 
-// How many of the four bytes from a place on stand before the first LF.
-fn before_lf(block: &[u8], i: usize) -> usize
-    requires { ⌜ i + 4 ≤ length (now block) ⌝ }
-    ensures { λ r. ⌜ r ≡ firstLf (take 4 (drop i (now (block .entry)))) ⌝ }
-{
-    if block[i] == b'\n' {
-        return 0;
-    }
-    if block[i + 1] == b'\n' {
-        return 1;
-    }
-    if block[i + 2] == b'\n' {
-        return 2;
-    }
-    if block[i + 3] == b'\n' {
-        return 3;
-    }
-    4
-}
-
 // The place of the first LF from a place on, or the block's end. Four bytes a turn, for speed, and then those that are left.
 pub(crate) fn line_end(block: &[u8], from: usize) -> usize
     requires { ⌜ from ≤ length (now block) ⌝ }
@@ -91,9 +71,17 @@ pub(crate) fn line_end(block: &[u8], from: usize) -> usize
 {
     let mut i = from;
     while 4 <= block.len() - i {
-        let n = before_lf(block, i);
-        if n < 4 {
-            return i + n;
+        if block[i] == b'\n' {
+            return i;
+        }
+        if block[i + 1] == b'\n' {
+            return i + 1;
+        }
+        if block[i + 2] == b'\n' {
+            return i + 2;
+        }
+        if block[i + 3] == b'\n' {
+            return i + 3;
         }
         i += 4;
     }

@@ -169,7 +169,7 @@ impl Head {
             Register::Tranofs => self.reply(g.tranofs),
             Register::Bytecount => self.read_count(counts),
             Register::Setting(n) => self.read_setting(settings, n),
-            Register::Preset => self.refuse(0),
+            Register::Preset => self.answer(0),
         }
     }
 
@@ -189,7 +189,7 @@ impl Head {
     {
         let n = self.read_refusal(reg);
         if n != 0 {
-            return self.refuse(n);
+            return self.answer(n);
         }
         self.read_by(sla, lens, status, counts, settings, mem, reg)
     }
@@ -248,13 +248,13 @@ impl Head {
     {
         let w = self.walk;
         match a {
-            Ask::Nothing => self.refuse(0),
-            Ask::Overrun => self.refuse(5),
+            Ask::Nothing => self.answer(0),
+            Ask::Overrun => self.answer(5),
             Ask::Begin => self.begin(sla, lens, status, counts, settings).anew(),
-            Ask::Wait => self.with_walk(sequence::waiting_walk(0)).refuse(0),
-            Ask::Sto => self.with_walk(sequence::record_sto(w)).refuse(0),
-            Ask::Seq => self.with_walk(sequence::record_seq(w)).refuse(0),
-            Ask::Leave => self.end_by(settings[0], Ending::Sd).refuse(0),
+            Ask::Wait => self.with_walk(sequence::waiting_walk(0)).answer(0),
+            Ask::Sto => self.with_walk(sequence::record_sto(w)).answer(0),
+            Ask::Seq => self.with_walk(sequence::record_seq(w)).answer(0),
+            Ask::Leave => self.end_by(settings[0], Ending::Sd).answer(0),
         }
     }
 
@@ -320,7 +320,7 @@ impl Head {
         let mask = rules::mask_kept(v);
         let mut h = self;
         h.regs.intmsk = mask;
-        h.refuse(0)
+        h.answer(0)
     }
 
     fn write_sla(self, sla: &mut [u8; 64], v: u8) -> Headed
@@ -329,7 +329,7 @@ impl Head {
     {
         let at = self.ptrs.sla;
         sla[at] = v;
-        self.sla_at(at + 1).refuse(0)
+        self.sla_at(at + 1).answer(0)
     }
 
     fn write_conf(self, lens: &mut [u8; 65], v: u8) -> Headed
@@ -338,7 +338,7 @@ impl Head {
     {
         let at = self.ptrs.conf;
         lens[at] = v;
-        self.conf_at(at + 1).refuse(0)
+        self.conf_at(at + 1).answer(0)
     }
 
     fn write_data(self, mem: &mut [u8], v: u8) -> Headed
@@ -347,7 +347,7 @@ impl Head {
     {
         let at = self.ptrs.buf;
         mem[at] = v;
-        self.data_at(at + 1).refuse(0)
+        self.data_at(at + 1).answer(0)
     }
 
     fn place(self, v: u8, o: u8, at: usize) -> Headed
@@ -357,7 +357,7 @@ impl Head {
         h.regs.transel = v;
         h.regs.tranofs = o;
         h.ptrs.buf = at;
-        h.refuse(0)
+        h.answer(0)
     }
 
     fn select(self, lens: &[u8; 65], v: u8) -> Headed
@@ -382,7 +382,7 @@ impl Head {
         ensures { λ r. ⌜ (r ≡ told self 0 0 Action.Nothing) × (now (settings .exit) ≡ set (now (settings .entry)) n v) ⌝ }
     {
         settings[n] = v;
-        self.refuse(0)
+        self.answer(0)
     }
 
     fn write_by<'a>(
@@ -400,20 +400,20 @@ impl Head {
         ensures { λ r. ⌜ Writes (λ c. writtenBy c reg v) self (now (sla .entry)) (now (lens .entry)) (now (status .entry)) (now (counts .entry)) (now (settings .entry)) r (now (sla .exit)) (now (lens .exit)) (now (status .exit)) (now (counts .exit)) (now (settings .exit)) × (now (mem .exit) ≡ storedBy (joined self (now (sla .entry)) (now (lens .entry)) (now (status .entry)) (now (counts .entry)) (now (settings .entry))) (now (mem .entry)) reg v) ⌝ }
     {
         match reg {
-            Register::Status(_) => self.refuse(0),
+            Register::Status(_) => self.answer(0),
             Register::Control => {
                 self.control(sla, lens, status, counts, settings, rules::command_of(v))
             }
-            Register::Chstatus => self.refuse(0),
+            Register::Chstatus => self.answer(0),
             Register::Intmsk => self.write_mask(v),
             Register::Slatable => self.write_sla(sla, v),
             Register::Tranconfig => self.write_conf(lens, v),
             Register::Data => self.write_data(mem, v),
             Register::Transel => self.select(lens, v),
             Register::Tranofs => self.offset(lens, v),
-            Register::Bytecount => self.refuse(0),
+            Register::Bytecount => self.answer(0),
             Register::Setting(n) => self.write_setting(settings, n, v),
-            Register::Preset => self.refuse(0),
+            Register::Preset => self.answer(0),
         }
     }
 
@@ -433,7 +433,7 @@ impl Head {
     {
         let n = self.refusal(lens, reg, v);
         if n != 0 {
-            return self.refuse(n);
+            return self.answer(n);
         }
         self.write_by(sla, lens, status, counts, settings, mem, reg, v)
     }
@@ -457,7 +457,7 @@ impl Head {
         *status = [0; 64];
         *counts = [0; 64];
         *settings = fresh_settings();
-        Head::new().refuse(0)
+        Head::new().answer(0)
     }
 
     // A write to a register: the reset by the key, or the write that forgets the key.

@@ -27,10 +27,10 @@ pub struct Channel {
 // of its fields this one is the quickest.
 pub struct Head {
     pub regs: Regs,
+    pub key: bool,
     pub ptrs: Ptrs,
     pub flags: Flags,
     pub walk: Walk,
-    pub key: bool,
 }
 
 // The number of document 01, the value of a read, and the action.
@@ -79,7 +79,7 @@ impl Channel {
     }
 
     // The record with an answer's number and nothing else.
-    pub(crate) fn refuse(self, number: u8) -> Stepped
+    pub(crate) fn answer(self, number: u8) -> Stepped
         ensures { λ r. ⌜ r ≡ refused self number ⌝ }
     {
         Stepped {
@@ -126,7 +126,7 @@ impl Head {
     }
 
     // The head with an answer's number and nothing else.
-    pub(crate) fn refuse(self, number: u8) -> Headed
+    pub(crate) fn answer(self, number: u8) -> Headed
         ensures { λ r. ⌜ r ≡ told self number 0 Action.Nothing ⌝ }
     {
         Headed {

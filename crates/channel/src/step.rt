@@ -47,7 +47,7 @@ impl Head {
         ensures { λ r. ⌜ Writes (λ c. writeAt c place v) self (now (sla .entry)) (now (lens .entry)) (now (status .entry)) (now (counts .entry)) (now (settings .entry)) r (now (sla .exit)) (now (lens .exit)) (now (status .exit)) (now (counts .exit)) (now (settings .exit)) × (now (mem .exit) ≡ storeAt (joined self (now (sla .entry)) (now (lens .entry)) (now (status .entry)) (now (counts .entry)) (now (settings .entry))) (now (mem .entry)) place v) ⌝ }
     {
         let Place::Here(reg) = place else {
-            return self.refuse(1);
+            return self.answer(1);
         };
         self.put(sla, lens, status, counts, settings, mem, reg, v)
     }
@@ -66,7 +66,7 @@ impl Head {
         ensures { λ r. ⌜ Reads (λ c. readAt c (now (mem .entry)) place) self (now (sla .entry)) (now (lens .entry)) (now (status .entry)) (now (counts .entry)) (now (settings .entry)) r ⌝ }
     {
         let Place::Here(reg) = place else {
-            return self.refuse(1);
+            return self.answer(1);
         };
         self.read(sla, lens, status, counts, settings, mem, reg)
     }
@@ -94,7 +94,7 @@ impl Head {
         ensures { λ r. ⌜ Turns (λ c. eventAt c (now (mem .entry)) number e) self (now (sla .entry)) (now (lens .entry)) (now (status .entry)) (now (counts .entry)) (now (settings .entry)) r (now (status .exit)) (now (counts .exit)) × (now (mem .exit) ≡ eventStore (joined self (now (sla .entry)) (now (lens .entry)) (now (status .entry)) (now (counts .entry)) (now (settings .entry))) (now (mem .entry)) number e) ⌝ }
     {
         if 2 < number {
-            return self.refuse(1);
+            return self.answer(1);
         }
         let t = self.turn_at(settings[0], e);
         self.turn(sla, lens, status, counts, settings, mem, t)
@@ -172,7 +172,7 @@ impl Channel {
     {
         let n = self.range_number(mem.len());
         if n != 0 {
-            return self.refuse(n);
+            return self.answer(n);
         }
         self.serve(number, mem, op)
     }

@@ -164,7 +164,7 @@ impl Head {
         ensures { λ r. ⌜ Begins (λ c. startedBy c m) self (now (sla .entry)) (now (status .entry)) (now (settings .entry)) r (now (status .exit)) ⌝ }
     {
         let Move::Send(n) = m else {
-            return self.end_frame(settings[0]).refuse(0);
+            return self.end_frame(settings[0]).answer(0);
         };
         self.send(status, n, Action::S(sla[n]))
     }
@@ -216,8 +216,8 @@ impl Head {
         ensures { λ r. ⌜ Turns (λ c. beganBy c b) self (now (sla .entry)) (now (lens .entry)) (now (status .entry)) (now (counts .entry)) (now (settings .entry)) r (now (status .exit)) (now (counts .exit)) ⌝ }
     {
         match b {
-            Beginning::Empty => self.to_idle().refuse(0),
-            Beginning::Unfit => self.to_idle().refuse(5),
+            Beginning::Empty => self.to_idle().answer(0),
+            Beginning::Unfit => self.to_idle().answer(5),
             Beginning::Fit => self.start_clear(sla, lens, status, counts, settings),
         }
     }
@@ -471,16 +471,16 @@ impl Head {
         ensures { λ r. ⌜ Turns (λ c. turned c (now (mem .entry)) t) self (now (sla .entry)) (now (lens .entry)) (now (status .entry)) (now (counts .entry)) (now (settings .entry)) r (now (status .exit)) (now (counts .exit)) × (now (mem .exit) ≡ turnStore (joined self (now (sla .entry)) (now (lens .entry)) (now (status .entry)) (now (counts .entry)) (now (settings .entry))) (now (mem .entry)) t) ⌝ }
     {
         match t {
-            Turn::Unawaited => self.refuse(7),
+            Turn::Unawaited => self.answer(7),
             Turn::AckAddress(n) => self.ack_address(sla, lens, status, mem, n),
             Turn::AckSending(n) => self.ack_sending(sla, lens, status, counts, mem, n),
             Turn::NackAddress(n) => self.nack(sla, lens, status, n, 0x04),
             Turn::NackSending(n) => self.nack(sla, lens, status, n, 0x08),
             Turn::Receive(n, b) => self.receive(sla, lens, status, counts, mem, n, b),
             Turn::Begin => self.begin(sla, lens, status, counts, settings).anew(),
-            Turn::Late => self.be_late().refuse(0),
-            Turn::End => self.end_frame(settings[0]).refuse(0),
-            Turn::Fault(f) => self.fault(f).refuse(0),
+            Turn::Late => self.be_late().answer(0),
+            Turn::End => self.end_frame(settings[0]).answer(0),
+            Turn::Fault(f) => self.fault(f).answer(0),
         }
     }
 
@@ -497,9 +497,9 @@ impl Head {
         ensures { λ r. ⌜ Turns (λ c. beaten c b) self (now (sla .entry)) (now (lens .entry)) (now (status .entry)) (now (counts .entry)) (now (settings .entry)) r (now (status .exit)) (now (counts .exit)) ⌝ }
     {
         match b {
-            Beat::Quiet => self.refuse(0),
+            Beat::Quiet => self.answer(0),
             Beat::Begin => self.begin(sla, lens, status, counts, settings),
-            Beat::Late => self.be_late().refuse(0),
+            Beat::Late => self.be_late().answer(0),
         }
     }
 }

@@ -10,7 +10,7 @@ use Rattle.part.specs.declared.map.Ctrl.{Ctrl}
 use Rattle.part.specs.declared.map.Ctrl.the-variants.{Ctrlstatus, Ctrlintmsk, Reserved, DeviceId, Ctrlpreset, Nothing, Ctrlrdy}
 use Rattle.part.specs.declared.state.Part.{Part}
 use Rattle.part.specs.declared.state.PartStepped.{PartStepped}
-use Rattle.part.specs.State.{freshPart, wiped, refusedPart, repliedPart, withBe, withMask, withKey, chan}
+use Rattle.part.specs.State.{freshPart, wiped, refusedPart, plainPart, repliedPart, withBe, withMask, withKey, chan}
 
 -- ---- pending causes, and the interrupt
 
@@ -81,10 +81,10 @@ ctrlRead p Ctrlrdy = repliedPart p 0x00
 -- ---- writes: no. 1 at F8h to FEh, no. 2 for a read-only register
 unfoldable pub ctrlWritten : Part → Ctrl → ℕ → PartStepped
 ctrlWritten p Ctrlstatus v = refusedPart p 2
-ctrlWritten p Ctrlintmsk v = refusedPart (withMask p (ctrlKept v)) 0
+ctrlWritten p Ctrlintmsk v = plainPart (withMask p (ctrlKept v))
 ctrlWritten p Reserved v = refusedPart p 2
 ctrlWritten p DeviceId v = refusedPart p 2
-ctrlWritten p Ctrlpreset v = refusedPart p 0
+ctrlWritten p Ctrlpreset v = plainPart p
 ctrlWritten p Nothing v = refusedPart p 1
 ctrlWritten p Ctrlrdy v = refusedPart p 2
 
@@ -100,7 +100,7 @@ ctrlpresetOf Ctrlrdy = false
 
 -- writing A5h to CTRLPRESET and then 5Ah resets the whole part; any write elsewhere between forgets the A5h
 unfoldable pub ctrlPut : Part → Ctrl → ℕ → PartStepped
-ctrlPut p reg v = if resetsOf (ctrlpresetOf reg) v (p .key) then refusedPart freshPart 0 else ctrlWritten (withKey p (keyAfter (ctrlpresetOf reg) v)) reg v
+ctrlPut p reg v = if resetsOf (ctrlpresetOf reg) v (p .key) then plainPart freshPart else ctrlWritten (withKey p (keyAfter (ctrlpresetOf reg) v)) reg v
 
 -- the 13,056 bytes: zero after a reset
 unfoldable pub ctrlStore : Part → List ℕ → Ctrl → ℕ → List ℕ

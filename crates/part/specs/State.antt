@@ -44,6 +44,10 @@ onlyAt c a = set quiet c (record { action = a })
 abbrev pub refusedPart : Part → ℕ → PartStepped
 refusedPart p n = told p n 0 quiet
 
+-- done, with no action
+abbrev pub plainPart : Part → PartStepped
+plainPart p = refusedPart p 0
+
 -- a read, with its value
 abbrev pub repliedPart : Part → ℕ → PartStepped
 repliedPart p v = told p 0 v quiet

@@ -24,7 +24,7 @@ use Rattle.part.specs.declared.map.Target.{Target}
 use Rattle.part.specs.declared.map.Common.{Common}
 use Rattle.part.specs.declared.map.Target.the-variants.{One, All}
 use Rattle.part.specs.declared.map.Common.the-variants.{CtrlWrite, CtrlRead, AllTrigger, AllReset, Beyond}
-use Rattle.part.specs.State.{freshPart, wiped, told, refusedPart, onlyAt, chan, window, putWindow}
+use Rattle.part.specs.State.{freshPart, wiped, told, refusedPart, plainPart, onlyAt, chan, window, putWindow}
 use Rattle.part.specs.Map.{targetOf}
 use Rattle.part.specs.Registers.{ctrlRead, ctrlPut, ctrlStore}
 
@@ -93,7 +93,7 @@ unfoldable pub allServed : Part → Common → PartStepped
 allServed p (CtrlWrite reg v) = ctrlPut p reg v
 allServed p (CtrlRead reg) = ctrlRead p reg
 allServed p (AllTrigger edge) = triggerStep p edge
-allServed p AllReset = refusedPart freshPart 0
+allServed p AllReset = plainPart freshPart
 allServed p Beyond = refusedPart p 1
 
 -- and the bytes

@@ -2,7 +2,7 @@
 ghost use mathlib.Core.Path.{_≡_};
 ghost use Prim.Native.Nat.{_+_, _*_, _/_, _%_, _<_};
 ghost use lib.ListN.{length};
-ghost use Rattle.part.specs.State.{freshPart, wiped, refusedPart};
+ghost use Rattle.part.specs.State.{freshPart, wiped, plainPart};
 ghost use Rattle.part.specs.Registers.{unmaskedOf, calmOf, pendingOf, pendingAt, activeAt, interruptOf, pulledBy, ctrlstatusOf, ctrlKept, ctrlRead, ctrlWritten, ctrlpresetOf, ctrlPut, ctrlStore};
 use crate::map::Ctrl;
 use crate::state::Part;
@@ -124,10 +124,10 @@ fn ctrl_kept(v: u8) -> u8
 // The reset of the whole part, with every byte.
 pub(crate) fn reset(mem: &mut [u8]) -> PartStepped
     requires { ⌜ length (now mem) ≡ 13056 ⌝ }
-    ensures { λ r. ⌜ (r ≡ refusedPart freshPart 0) × (now (mem .exit) ≡ wiped) ⌝ }
+    ensures { λ r. ⌜ (r ≡ plainPart freshPart) × (now (mem .exit) ≡ wiped) ⌝ }
 {
     rules::wipe(mem);
-    Part::new().refuse(0)
+    Part::new().answer(0)
 }
 
 impl Part {
@@ -192,7 +192,7 @@ impl Part {
             Ctrl::Reserved => self.reply(0x00),
             Ctrl::DeviceId => self.reply(0x63),
             Ctrl::Ctrlpreset => self.reply(0x00),
-            Ctrl::Nothing => self.refuse(1),
+            Ctrl::Nothing => self.answer(1),
             Ctrl::Ctrlrdy => self.reply(0x00),
         }
     }
@@ -200,20 +200,20 @@ impl Part {
     fn write_mask(self, v: u8) -> PartStepped
         ensures { λ r. ⌜ r ≡ ctrlWritten self Ctrl.Ctrlintmsk v ⌝ }
     {
-        self.with_mask(ctrl_kept(v)).refuse(0)
+        self.with_mask(ctrl_kept(v)).answer(0)
     }
 
     fn write_ctrl(self, reg: Ctrl, v: u8) -> PartStepped
         ensures { λ r. ⌜ r ≡ ctrlWritten self reg v ⌝ }
     {
         match reg {
-            Ctrl::Ctrlstatus => self.refuse(2),
+            Ctrl::Ctrlstatus => self.answer(2),
             Ctrl::Ctrlintmsk => self.write_mask(v),
-            Ctrl::Reserved => self.refuse(2),
-            Ctrl::DeviceId => self.refuse(2),
-            Ctrl::Ctrlpreset => self.refuse(0),
-            Ctrl::Nothing => self.refuse(1),
-            Ctrl::Ctrlrdy => self.refuse(2),
+            Ctrl::Reserved => self.answer(2),
+            Ctrl::DeviceId => self.answer(2),
+            Ctrl::Ctrlpreset => self.answer(0),
+            Ctrl::Nothing => self.answer(1),
+            Ctrl::Ctrlrdy => self.answer(2),
         }
     }
 

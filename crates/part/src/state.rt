@@ -101,7 +101,7 @@ impl Part {
     }
 
     // The part with an answer's number and nothing else.
-    pub(crate) fn refuse(self, number: u8) -> PartStepped
+    pub(crate) fn answer(self, number: u8) -> PartStepped
         ensures { λ r. ⌜ r ≡ refusedPart self number ⌝ }
     {
         self.tell(number, 0, no_acts())

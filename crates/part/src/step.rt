@@ -134,7 +134,7 @@ impl Part {
             Common::CtrlRead(reg) => self.read_ctrl(reg),
             Common::AllTrigger(edge) => self.trigger(edge),
             Common::AllReset => reset(mem),
-            Common::Beyond => self.refuse(1),
+            Common::Beyond => self.answer(1),
         }
     }
 
@@ -194,7 +194,7 @@ impl Part {
         ensures { λ r. ⌜ (r ≡ partStep self (now (mem .entry)) s) × (now (mem .exit) ≡ partBytes self (now (mem .entry)) s) ⌝ }
     {
         if !self.accepts_len(mem.len()) {
-            return self.refuse(9);
+            return self.answer(9);
         }
         self.advance(mem, s)
     }

@@ -1,15 +1,14 @@
 -- Where a line ends, and that one which came in pieces is read as the whole line is.
-use Prim.Native.Nat.{ℕ, zero, suc, _+_, _-_, _<_, _≤_}
+use Prim.Native.Nat.{ℕ, suc, _+_, _-_, _<_, _≤_}
 use mathlib.Core.Bool.{Bool, true, false}
 use mathlib.Core.List.{List, [], _∷_, _++_, append-nil, append-assoc}
 use mathlib.Core.Path.{_≡_, refl, sym, _∙_, ap, subst}
-use native.Mathlib.Nat.{not-suc-le-zero, le-of-suc-le-suc}
 use native.Mathlib.Numerals.{add-one}
 use native.Mathlib.Omega.{arith}
 use borrow.Author.Tests.{ltb-true, ltb-false, leb-true, leb-false}
 use lib.Dec.{eqb, leb, ltb}
 use lib.ListN.{length, getD, take, drop, set, length-append, length-drop, length-take, length-set, length-replicate, drop-of-length-le}
-use lib.Seq.{sets, sets-eq, drop-append-seam, drop-cons, drop-drop, length-take-le, take-all, take-append-add, take-append-seam, take-append-le, take-suc-set}
+use lib.Seq.{sets, sets-eq, drop-append-seam, drop-cons, length-take-le, take-all, take-append-add, take-append-seam, take-append-le, take-suc-set}
 use Rattle.laws.specs.Pick.{if_then_else_}
 use Rattle.laws.specs.Cases.{pick-holds}
 use Rattle.script.specs.Grammar.{lineOf}
@@ -46,55 +45,11 @@ module _ (block : List ℕ) (from : ℕ) where
       let e : firstLf (drop from block) ≡ firstLf (drop (from + 1) block) + 1 = ap firstLf (drop-cons block from 0 h) ∙ rw (t, n) in
       omega (arith, e)
 
--- ---- the same, n bytes at once: a of them are before an LF, and b are of all
-near-if : (t : Bool) (a b n : ℕ) → (a < n → b ≡ a) → (if t then 0 else a + 1) < suc n → (if t then 0 else b + 1) ≡ (if t then 0 else a + 1)
-unfolding if_then_else_
-near-if true a b n f h = refl
-near-if false a b n f h = ap (λ (x : ℕ). x + 1) (f (omega (arith, h)))
-
-first-lf-near : (n : ℕ) (l : List ℕ) → firstLf (take n l) < n → firstLf l ≡ firstLf (take n l)
-first-lf-near zero l h = absurd (not-suc-le-zero h)
-first-lf-near (suc n) [] h = refl
-first-lf-near (suc n) (b ∷ l) h = near-if (eqb b 10) _ _ n (first-lf-near n l) h
-
-far-if : (t : Bool) (a b d n : ℕ) → (n ≤ a → b ≡ n + d) → suc n ≤ (if t then 0 else a + 1) → (if t then 0 else b + 1) ≡ suc n + d
-unfolding if_then_else_
-far-if true a b d n f h = absurd (not-suc-le-zero h)
-far-if false a b d n f h = let e = f (omega (arith, h)) in omega (arith, e)
-
-first-lf-far : (n : ℕ) (l : List ℕ) → n ≤ length l → n ≤ firstLf (take n l) → firstLf l ≡ n + firstLf (drop n l)
-first-lf-far zero l h g = omega arith
-first-lf-far (suc n) [] h g = absurd (not-suc-le-zero h)
-first-lf-far (suc n) (b ∷ l) h g = far-if (eqb b 10) _ _ _ n (first-lf-far n l (le-of-suc-le-suc h)) g
-
-take-next : (n i : ℕ) (l : List ℕ) → i < length l → take (suc n) (drop i l) ≡ getD l i 0 ∷ take n (drop (i + 1) l)
-take-next n i l h = ap (take (suc n)) (drop-cons l i 0 h) ∙ rw (add-one i)
-
-pub four-at : (l : List ℕ) (i : ℕ) → i + 4 ≤ length l → take 4 (drop i l) ≡ getD l i 0 ∷ getD l (i + 1) 0 ∷ getD l (i + 2) 0 ∷ getD l (i + 3) 0 ∷ []
-four-at l i h =
-    let two : i + 1 + 1 ≡ i + 2 = omega arith in
-    let three : i + 2 + 1 ≡ i + 3 = omega arith in
-    rw (
-      take-next 3 i l (omega (arith, h)),
-      take-next 2 (i + 1) l (omega (arith, h)),
-      two,
-      take-next 1 (i + 2) l (omega (arith, h)),
-      three,
-      take-next 0 (i + 3) l (omega (arith, h)),
-    )
-
-module _ (block : List ℕ) (from : ℕ) where
-  pub end-near : firstLf (take 4 (drop from block)) < 4 → lineEnd block from ≡ from + firstLf (take 4 (drop from block))
-  unfolding lineEnd
-  end-near h = ap (λ (x : ℕ). from + x) (first-lf-near 4 (drop from block) h)
-
-  pub end-far : from + 4 ≤ length block → 4 ≤ firstLf (take 4 (drop from block)) → lineEnd block from ≡ lineEnd block (from + 4)
-  unfolding lineEnd
-  end-far h g =
-      let k = length-drop from block in
-      let e = first-lf-far 4 (drop from block) (omega (arith, h, k)) g in
-      let d : firstLf (drop 4 (drop from block)) ≡ firstLf (drop (from + 4) block) = ap firstLf (drop-drop 4 from block) in
-      omega (arith, e, d)
+-- and so on: what is the end of the line from k bytes further on is that from one more
+pub end-past : (block : List ℕ) (from k : ℕ) {end : ℕ} → end ≡ lineEnd block (from + k) → from + k < length block → eqb (getD block (from + k) 0) 10 ≡ false → end ≡ lineEnd block (from + suc k)
+end-past block from k e h t =
+    let n : from + k + 1 ≡ from + suc k = omega arith in
+    e ∙ end-later block (from + k) h t ∙ ap (lineEnd block) n
 
 -- ---- bytes that are put somewhere, and those that follow them
 behind-put : (k l : List ℕ) (a : ℕ) → a + length k ≤ length l → drop a (sets l a k) ≡ k ++ drop (a + length k) l

@@ -1,10 +1,10 @@
 -- `bench::lines::line_end` meets its contract: until the first LF the end of the line stays the same.
-use Prim.Native.Nat.{_-_, _≤_}
-use Rattle.bench.specs.Laws.Lines.{end-here, end-last, end-later, end-near, end-far}
+use Prim.Native.Nat.{_+_, _-_, _≤_}
+use Rattle.bench.specs.Laws.Lines.{end-here, end-last, end-later, end-past}
 use Rattle.bench.specs.Lines.{lineEnd}
 use Rattle.laws.specs.Cases.{cases}
 use borrow.Author.Needs.{needs}
-use borrow.Author.Tests.{eq-eqb}
+use borrow.Author.Tests.{eq-eqb, ne-eqb}
 use lib.ListN.{getD, length}
 use mathlib.Core.Path.{_∙_, _≡_, refl, sym}
 use native.Mathlib.Omega.{arith}
@@ -33,16 +33,27 @@ line-end-spec =
     μ-loop2
     (λ c. (search needs, refl))
     (λ c. search needs)
-    (λ c. λ κs. let h = c .loop-test .taken in let k = c .before .loop .inv .0 in omega (arith, h, k))
     (λ c. search needs)
-    (λ c. sym (c .before .before .before .loop .inv .1 ∙ end-near (c .before .before .before .before .before .args .block .now) (c .before .before .before .loop .i) (rw (c .before .before-lf .ensures) at (c .if1 .taken)) ∙ rw (c .before .before-lf .ensures)))
+    (λ c. let l = c .before .before .before .before .args .block .now in let i = c .before .before .before .loop .i in let h = c .before .before .loop-test .taken in let k = c .before .before .before .loop .inv .0 in let room : i + 4 ≤ length l = omega (arith, h, k) in sym (c .before .before .before .loop .inv .1 ∙ end-here l i (omega (arith, room)) (eq-eqb (getD l i 0) 10 (c .if1 .taken))))
     (λ c. search needs)
-    (λ c. let h = c .before .before .loop-test .taken in let k = c .before .before .before .loop .inv .0 in omega (arith, h, k))
-    (λ c. let i = c .before .before .before .loop .i in (let h = c .before .before .loop-test .taken in let k = c .before .before .before .loop .inv .0 in omega (arith, h, k), c .before .before .before .loop .inv .1 ∙ end-far (c .before .before .before .before .before .args .block .now) i (let h = c .before .before .loop-test .taken in let k = c .before .before .before .loop .inv .0 in omega (arith, h, k)) (rw (c .before .before-lf .ensures) at (c .if1 .left))))
+    (λ c. search needs)
+    (λ c. search needs)
+    (λ c. let l = c .before .before .before .before .before .before .args .block .now in let i = c .before .before .before .before .before .loop .i in let h = c .before .before .before .before .loop-test .taken in let k = c .before .before .before .before .before .loop .inv .0 in let room : i + 4 ≤ length l = omega (arith, h, k) in let e1 = c .before .before .before .before .before .loop .inv .1 ∙ end-later l i (omega (arith, room)) (ne-eqb (getD l i 0) 10 (c .before .before .if1 .left)) in sym (e1 ∙ end-here l (i + 1) (omega (arith, room)) (eq-eqb (getD l (i + 1) 0) 10 (c .if2 .taken))))
+    (λ c. search needs)
+    (λ c. search needs)
+    (λ c. search needs)
+    (λ c. let l = c .before .before .before .before .before .before .before .before .args .block .now in let i = c .before .before .before .before .before .before .before .loop .i in let h = c .before .before .before .before .before .before .loop-test .taken in let k = c .before .before .before .before .before .before .before .loop .inv .0 in let room : i + 4 ≤ length l = omega (arith, h, k) in let e1 = c .before .before .before .before .before .before .before .loop .inv .1 ∙ end-later l i (omega (arith, room)) (ne-eqb (getD l i 0) 10 (c .before .before .before .before .if1 .left)) in let e2 = end-past l i 1 e1 (omega (arith, room)) (ne-eqb (getD l (i + 1) 0) 10 (c .before .before .if2 .left)) in sym (e2 ∙ end-here l (i + 2) (omega (arith, room)) (eq-eqb (getD l (i + 2) 0) 10 (c .if3 .taken))))
+    (λ c. search needs)
+    (λ c. search needs)
+    (λ c. search needs)
+    (λ c. let l = c .before .before .before .before .before .before .before .before .before .before .args .block .now in let i = c .before .before .before .before .before .before .before .before .before .loop .i in let h = c .before .before .before .before .before .before .before .before .loop-test .taken in let k = c .before .before .before .before .before .before .before .before .before .loop .inv .0 in let room : i + 4 ≤ length l = omega (arith, h, k) in let e1 = c .before .before .before .before .before .before .before .before .before .loop .inv .1 ∙ end-later l i (omega (arith, room)) (ne-eqb (getD l i 0) 10 (c .before .before .before .before .before .before .if1 .left)) in let e2 = end-past l i 1 e1 (omega (arith, room)) (ne-eqb (getD l (i + 1) 0) 10 (c .before .before .before .before .if2 .left)) in let e3 = end-past l i 2 e2 (omega (arith, room)) (ne-eqb (getD l (i + 2) 0) 10 (c .before .before .if3 .left)) in sym (e3 ∙ end-here l (i + 3) (omega (arith, room)) (eq-eqb (getD l (i + 3) 0) 10 (c .if4 .taken))))
+    (λ c. search needs)
+    (λ c. let h = c .before .before .before .before .before .before .before .before .loop-test .taken in let k = c .before .before .before .before .before .before .before .before .before .loop .inv .0 in omega (arith, h, k))
+    (λ c. let l = c .before .before .before .before .before .before .before .before .before .before .args .block .now in let i = c .before .before .before .before .before .before .before .before .before .loop .i in let h = c .before .before .before .before .before .before .before .before .loop-test .taken in let k = c .before .before .before .before .before .before .before .before .before .loop .inv .0 in let room : i + 4 ≤ length l = omega (arith, h, k) in let e1 = c .before .before .before .before .before .before .before .before .before .loop .inv .1 ∙ end-later l i (omega (arith, room)) (ne-eqb (getD l i 0) 10 (c .before .before .before .before .before .before .if1 .left)) in let e2 = end-past l i 1 e1 (omega (arith, room)) (ne-eqb (getD l (i + 1) 0) 10 (c .before .before .before .before .if2 .left)) in let e3 = end-past l i 2 e2 (omega (arith, room)) (ne-eqb (getD l (i + 2) 0) 10 (c .before .before .if3 .left)) in let e4 = end-past l i 3 e3 (omega (arith, room)) (ne-eqb (getD l (i + 3) 0) 10 (c .if4 .left)) in (room, e4))
     (λ c. (c .before .loop .inv .0, c .before .loop .inv .1))
     (λ c. search needs)
-    (λ c. let i = c .before .before .before .loop2 .i in sym (c .before .before .before .loop2 .inv .1 ∙ end-here (c .before .before .before .before .before .before .before .args .block .now) i (search needs) (eq-eqb (getD (c .before .before .before .before .before .before .before .args .block .now) i 0) 10 (search needs))))
+    (λ c. let i = c .before .before .before .loop2 .i in sym (c .before .before .before .loop2 .inv .1 ∙ end-here (c .before .before .before .before .before .before .args .block .now) i (search needs) (eq-eqb (getD (c .before .before .before .before .before .before .args .block .now) i 0) 10 (search needs))))
     (λ c. search needs)
     (λ c. search needs)
-    (λ c. let i = c .before .before .before .loop2 .i in (search needs, c .before .before .before .loop2 .inv .1 ∙ end-later (c .before .before .before .before .before .before .before .args .block .now) i (search needs) (search cases depth 12)))
-    (λ c. let i = c .before .loop2 .i in sym (c .before .loop2 .inv .1 ∙ end-last (c .before .before .before .before .before .args .block .now) i (search needs))))
+    (λ c. let i = c .before .before .before .loop2 .i in (search needs, c .before .before .before .loop2 .inv .1 ∙ end-later (c .before .before .before .before .before .before .args .block .now) i (search needs) (search cases depth 12)))
+    (λ c. let i = c .before .loop2 .i in sym (c .before .loop2 .inv .1 ∙ end-last (c .before .before .before .before .args .block .now) i (search needs))))

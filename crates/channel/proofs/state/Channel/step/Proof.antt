@@ -13,7 +13,7 @@ step-spec =
     (tie.spec
     (λ c. λ κs. search needs)
     (λ c. λ κs. search needs)
-    (λ c. (guarded-no _ _ _ _ _ (c .before .before .range-number .ensures) (c .before .if1 .taken) (c .refuse .ensures), kept-no _ _ _ _ (c .before .before .range-number .ensures) (c .before .if1 .taken)))
+    (λ c. (guarded-no _ _ _ _ _ (c .before .before .range-number .ensures) (c .before .if1 .taken) (c .answer .ensures), kept-no _ _ _ _ (c .before .before .range-number .ensures) (c .before .if1 .taken)))
     (λ c. λ κs. accepts _ _ _ (c .before .before .range-number .ensures) (c .before .if1 .left))
     (λ c. search needs)
     (λ c. (guarded-yes _ _ _ _ _ (c .before .before .before .before .before .range-number .ensures) (c .before .before .before .before .if1 .left) (c .before .before .serve .ensures .0), kept-yes _ _ _ _ _ (c .before .before .before .before .before .range-number .ensures) (c .before .before .before .before .if1 .left) (c .before .before .serve .ensures .1))))

@@ -14,7 +14,7 @@ event-at-spec =
     tie.close
     (tie.spec
     (λ c. λ κs. search needs)
-    (λ c. let t = lt-ltb _ _ (c .before .if1 .taken) in (pick-true _ _ _ _ t (rw (c .refuse .ensures)), pick-true _ _ _ _ t refl))
+    (λ c. let t = lt-ltb _ _ (c .before .if1 .taken) in (pick-true _ _ _ _ t (rw (c .answer .ensures)), pick-true _ _ _ _ t refl))
     (λ c. search needs)
     (λ c. λ κs. search needs)
     (λ c. λ κs. (turn-meets _ _ _ (c .before .before .before .before .before .before .before .pre .ranged) (c .before .before .before .turn-at .ensures), c .before .before .before .before .before .before .before .pre .whole))

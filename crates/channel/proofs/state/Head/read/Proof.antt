@@ -12,6 +12,6 @@ read-spec =
     (tie.spec
     (λ c. λ κs. search needs)
     (λ c. λ κs. search needs)
-    (λ c. guarded-no _ _ _ _ _ (c .before .before .read-refusal .ensures) (c .before .if1 .taken) (rw (c .refuse .ensures)))
+    (λ c. guarded-no _ _ _ _ _ (c .before .before .read-refusal .ensures) (c .before .if1 .taken) (rw (c .answer .ensures)))
     (λ c. λ κs. search needs)
     (λ c. guarded-yes _ _ _ _ _ (c .before .before .read-refusal .ensures) (c .before .if1 .left) (c .read-by .ensures)))

@@ -13,6 +13,6 @@ read-at-spec =
     (λ c. search needs)
     (λ c. search needs)
     (λ c. λ κs. search needs)
-    (λ c. rw (c .before .enum-told .given .1, c .refuse .ensures))
+    (λ c. rw (c .before .enum-told .given .1, c .answer .ensures))
     (λ c. λ κs. (known-here _ _ (c .before .before .before .before .pre .0) (c .before .place .given .1), c .before .before .before .before .pre .1))
     (λ c. rw (c .before .before .place .given .1) (c .read .ensures)))

@@ -45,4 +45,4 @@ read-by-spec =
     (λ c. rw (c .before .enum-told8 .given .1, c .reply3 .ensures))
     (λ c. rw (c .before .enum-told9 .given .1, c .read-count .ensures))
     (λ c. rw (c .before .before .reg2 .given .1, c .read-setting .ensures))
-    (λ c. rw (c .before .enum-told10 .given .1, c .refuse .ensures)))
+    (λ c. rw (c .before .enum-told10 .given .1, c .answer .ensures)))

@@ -15,7 +15,7 @@ start-by-spec =
     (λ c. search needs)
     (λ c. λ κs. search needs)
     (λ c. λ κs. search needs)
-    (λ c. λ lens k. rw (c .before .before .before .enum-told .given .1, c .refuse .ensures, c .before .end-frame .ensures))
+    (λ c. λ lens k. rw (c .before .before .before .enum-told .given .1, c .answer .ensures, c .before .end-frame .ensures))
     (λ c. search moves)
     (λ c. λ κs. search moves)
     (λ c. λ lens k. rw (c .before .before .before .before .m .given .1, c .send .ensures .0, c .send .ensures .1)))

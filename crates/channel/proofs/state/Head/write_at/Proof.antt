@@ -14,7 +14,7 @@ write-at-spec =
     (λ c. search needs)
     (λ c. search needs)
     (λ c. λ κs. search needs)
-    (λ c. rw (c .before .enum-told .given .1, c .refuse .ensures) (refl, refl))
+    (λ c. rw (c .before .enum-told .given .1, c .answer .ensures) (refl, refl))
     (λ c. λ κs. (c .before .before .before .before .before .before .before .before .before .before .pre .0, known-here _ _ (c .before .before .before .before .before .before .before .before .before .before .pre .1) (c .before .before .before .before .before .before .before .place .given .1)))
     (λ c. search needs)
     (λ c. rw (c .before .before .before .before .before .before .before .before .before .before .place .given .1) (c .before .before .put .ensures)))

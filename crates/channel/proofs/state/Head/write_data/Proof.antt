@@ -13,4 +13,4 @@ write-data-spec =
     (λ c. λ κs. search needs)
     (λ c. λ κs. search needs)
     (λ c. search needs)
-    (λ c. (rw (c .refuse .ensures, c .before .data-at .ensures), refl)))
+    (λ c. (rw (c .answer .ensures, c .before .data-at .ensures), refl)))

@@ -9,4 +9,4 @@ write-mask-spec =
     (tie.spec
     (λ c. λ κs. search needs)
     (λ c. λ κs. search needs)
-    (λ c. rw (c .refuse .ensures, c .before .before .mask-kept .ensures)))
+    (λ c. rw (c .answer .ensures, c .before .before .mask-kept .ensures)))

@@ -28,5 +28,5 @@ read-ctrl-spec =
     (λ c. rw (c .before .enum-told3 .given .1) (c .reply2 .ensures))
     (λ c. rw (c .before .enum-told4 .given .1) (c .reply3 .ensures))
     (λ c. rw (c .before .enum-told5 .given .1) (c .reply4 .ensures))
-    (λ c. rw (c .before .enum-told6 .given .1) (c .refuse .ensures))
+    (λ c. rw (c .before .enum-told6 .given .1) (c .answer .ensures))
     (λ c. rw (c .before .enum-told7 .given .1) (c .reply5 .ensures)))

@@ -26,4 +26,4 @@ serve-all-spec =
     (λ c. rw (c .before .before .t3 .given .1) (c .trigger .ensures, refl))
     (λ c. search needs)
     (λ c. rw (c .before .before .before .before .enum-told .given .1) (c .before .before .reset .ensures))
-    (λ c. rw (c .before .enum-told2 .given .1) (c .refuse .ensures, refl)))
+    (λ c. rw (c .before .enum-told2 .given .1) (c .answer .ensures, refl)))

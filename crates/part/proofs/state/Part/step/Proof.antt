@@ -15,7 +15,7 @@ step-spec =
     (tie.spec
     (λ c. λ κs. search needs)
     (λ c. λ κs. search needs)
-    (λ c. let t = sym (c .before .before .accepts-len .ensures) ∙ not-true _ (c .before .if1 .taken) in (pick-false _ _ _ _ t (c .refuse .ensures), pick-false _ _ _ _ t refl))
+    (λ c. let t = sym (c .before .before .accepts-len .ensures) ∙ not-true _ (c .before .if1 .taken) in (pick-false _ _ _ _ t (c .answer .ensures), pick-false _ _ _ _ t refl))
     (λ c. λ κs. accepts-whole _ _ (sym (c .before .before .accepts-len .ensures) ∙ not-false _ (c .before .if1 .left)))
     (λ c. search needs)
     (λ c. c .before .before .advance .ensures))

@@ -12,4 +12,4 @@ write-mask-spec =
     (λ c. λ κs. search needs)
     (λ c. λ κs. search needs)
     (λ c. λ κs. search needs)
-    (λ c. rw (c .refuse .ensures, c .before .with-mask .ensures, c .before .before .ctrl-kept .ensures)))
+    (λ c. rw (c .answer .ensures, c .before .with-mask .ensures, c .before .before .ctrl-kept .ensures)))
