@@ -15,10 +15,14 @@ use Rattle.bench.specs.declared.answering.Rest.the-variants.{All, Unread
 use Rattle.bench.specs.declared.answering.Aim.{Aim}
 use Rattle.bench.specs.declared.answering.Aim.the-variants.{One, Others}
 
--- a line that can be read is a step of the part; one that can't is no. 8, and leaves all
+-- a line that can't be read is no. 8, and leaves the part
+abbrev pub unread : Part → PartStepped
+unread p = record { part = p; answer = noAnswer }
+
+-- one that can be read is a step of the part
 abbrev pub performed : Part → List ℕ → Line → PartStepped
 performed p m (Readable s) = partStep p m s
-performed p m Unreadable = record { part = p; answer = noAnswer }
+performed p m Unreadable = unread p
 
 abbrev pub performedBytes : Part → List ℕ → Line → List ℕ
 performedBytes p m (Readable s) = partBytes p m s
@@ -40,7 +44,7 @@ InAim (Others t) = Unit {0}
 
 abbrev pub performedRest : Part → Rest → PartStepped
 performedRest p (All t) = allServed p t
-performedRest p Unread = record { part = p; answer = noAnswer }
+performedRest p Unread = unread p
 
 abbrev pub restBytes : Part → List ℕ → Rest → List ℕ
 restBytes p m (All t) = allStored p m t

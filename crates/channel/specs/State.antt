@@ -42,13 +42,17 @@ fresh = record {
 abbrev pub answered : Channel → ℕ → ℕ → Action → Stepped
 answered c n v a = record { channel = c; answer = record { number = n; value = v; action = a } }
 
+-- a number alone
+abbrev pub numbered : Channel → ℕ → Stepped
+numbered c n = answered c n 0 Nothing
+
 -- only a read answered 0 carries a value, else it is 00h; every answer but 0 has no action
 abbrev pub refused : Channel → ℕ → Stepped
-refused c n = answered c n 0 Nothing
+refused c n = numbered c n
 
 -- done, with no action
 abbrev pub plain : Channel → Stepped
-plain c = refused c 0
+plain c = numbered c 0
 
 -- a read, with its value
 abbrev pub replied : Channel → ℕ → Stepped

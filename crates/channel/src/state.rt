@@ -1,6 +1,6 @@
 // The record of a channel, what a step answers, and the changes of one part of the record.
 ghost use mathlib.Core.Path.{_≡_};
-ghost use Rattle.channel.specs.State.{fresh, refused};
+ghost use Rattle.channel.specs.State.{fresh, numbered};
 ghost use Rattle.channel.specs.Head.{freshHead, headOf, joined, told, headWalk, headFlags, headKey};
 use rules::Flags;
 use rules::Ptrs;
@@ -23,8 +23,8 @@ pub struct Channel {
     pub key: bool,
 }
 
-// A channel without its tables. A step takes it by value and has the tables lent, so that no table is copied from call to call. Of the orders
-// of its fields this one is the quickest.
+// A channel without its tables. A step takes it by value and has the tables lent, so that no table is copied from call to call.
+// In this order of its fields it is copied quickest.
 pub struct Head {
     pub regs: Regs,
     pub key: bool,
@@ -80,7 +80,7 @@ impl Channel {
 
     // The record with an answer's number and nothing else.
     pub(crate) fn answer(self, number: u8) -> Stepped
-        ensures { λ r. ⌜ r ≡ refused self number ⌝ }
+        ensures { λ r. ⌜ r ≡ numbered self number ⌝ }
     {
         Stepped {
             channel: self,

@@ -5,9 +5,9 @@ use mathlib.Core.List.{List, [], _∷_}
 use lib.ListN.{getD, set, replicate}
 use Rattle.laws.specs.Pick.{if_then_else_}
 use Rattle.laws.specs.Windows.{cut, put}
-use Rattle.rules.specs.declared.state.Phase.the-variants.{Idle}
 use Rattle.sequence.specs.declared.wires.Action.{Action}
 use Rattle.sequence.specs.declared.wires.Action.the-variants.{Nothing}
+use Rattle.sequence.specs.Walk.{idle, noFlags}
 use Rattle.channel.specs.declared.state.Channel.{Channel}
 use Rattle.channel.specs.State.{fresh}
 use Rattle.part.specs.declared.state.Act.{Act}
@@ -40,13 +40,17 @@ actIf mine a = if mine then record { action = a } else record { action = Nothing
 abbrev pub onlyAt : ℕ → Action → List Act
 onlyAt c a = set quiet c (record { action = a })
 
+-- a number alone
+abbrev pub numberedPart : Part → ℕ → PartStepped
+numberedPart p n = told p n 0 quiet
+
 -- only a read answered 0 carries a value, else it is 00h; every answer but 0 has no action
 abbrev pub refusedPart : Part → ℕ → PartStepped
-refusedPart p n = told p n 0 quiet
+refusedPart p n = numberedPart p n
 
 -- done, with no action
 abbrev pub plainPart : Part → PartStepped
-plainPart p = refusedPart p 0
+plainPart p = numberedPart p 0
 
 -- a read, with its value
 abbrev pub repliedPart : Part → ℕ → PartStepped
@@ -73,9 +77,9 @@ blank = record {
   bytecount = [];
   settings = [];
   regs = record { intmsk = 0; transel = 0; tranofs = 0; tp = false; te = false };
-  flags = record { sd = false; fld = false; we = false; re = false; dae = false; cle = false; sse = false; fe = false };
+  flags = noFlags;
   ptrs = record { sla = 0; conf = 0; buf = 0; count = 0 };
-  walk = record { phase = Idle; ended = 0; sto = false; seq = false; fe = false; error = false };
+  walk = idle;
   key = false;
 }
 

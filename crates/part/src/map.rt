@@ -34,7 +34,7 @@ pub enum Common {
     Beyond,
 }
 
-// Whom a step concerns: one channel, or all.
+// Whom a step concerns: one channel, by what is asked of it and its number, or all.
 pub enum Target {
     One(Op, u8),
     All(Common),

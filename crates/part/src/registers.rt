@@ -1,6 +1,6 @@
 // Document 01, 'The part as the processor sees it': CTRLSTATUS, CTRLINTMSK, the interrupt, and the reads and writes at F0h to FFh.
 ghost use mathlib.Core.Path.{_≡_};
-ghost use Prim.Native.Nat.{_+_, _*_, _/_, _%_, _<_};
+ghost use Prim.Native.Nat.{_<_};
 ghost use lib.ListN.{length};
 ghost use Rattle.part.specs.State.{freshPart, wiped, plainPart};
 ghost use Rattle.part.specs.Registers.{unmaskedOf, calmOf, pendingOf, pendingAt, activeAt, interruptOf, pulledBy, ctrlstatusOf, ctrlKept, ctrlRead, ctrlWritten, ctrlpresetOf, ctrlPut, ctrlStore};

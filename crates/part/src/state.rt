@@ -1,7 +1,7 @@
 // The record of the part, and what a step answers.
 ghost use mathlib.Core.Path.{_≡_};
 ghost use Prim.Native.Nat.{_<_};
-ghost use Rattle.part.specs.State.{freshPart, told, refusedPart, repliedPart, quiet, actIf, onlyAt, withBe, withMask, withKey};
+ghost use Rattle.part.specs.State.{freshPart, told, numberedPart, repliedPart, quiet, actIf, onlyAt, withBe, withMask, withKey};
 use channel::Channel;
 use sequence::Action;
 
@@ -102,7 +102,7 @@ impl Part {
 
     // The part with an answer's number and nothing else.
     pub(crate) fn answer(self, number: u8) -> PartStepped
-        ensures { λ r. ⌜ r ≡ refusedPart self number ⌝ }
+        ensures { λ r. ⌜ r ≡ numberedPart self number ⌝ }
     {
         self.tell(number, 0, no_acts())
     }

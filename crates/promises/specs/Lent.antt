@@ -1,5 +1,4 @@
--- No second outcome of crate lent: for each public function, two outcomes that satisfy its promise are equal. The promise is its `ensures` clause,
--- letter by letter: what is lent as `mem` is written for its value at entry, and `mem′` for that at exit.
+-- No second outcome of crate lent: a statement for each public function.
 use Prim.Native.Nat.{ℕ}
 use mathlib.Core.List.{List}
 use mathlib.Core.Path.{_≡_}

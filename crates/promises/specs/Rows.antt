@@ -1,5 +1,4 @@
--- No second outcome of crate rows: for each public function, two outcomes that satisfy its promise are equal. The promise is its `ensures` clause,
--- letter by letter: a lent array `sla` is written for its rows at entry, and `sla′` for those at exit.
+-- No second outcome of crate rows: a statement for each public function.
 use Prim.Native.Nat.{ℕ}
 use mathlib.Core.Bool.{Bool}
 use mathlib.Core.List.{List, []}

@@ -14,10 +14,10 @@ use Rattle.channel.specs.Head.{joined, rejoined, headOf}
 use Rattle.channel.specs.Step.{servedBy}
 use Rattle.part.specs.declared.state.Part.{Part}
 use Rattle.part.specs.declared.state.Told.{Told}
-use Rattle.rows.specs.declared.Heads.{Heads}
 use Rattle.part.specs.State.{blank, chan, window}
 use Rattle.part.specs.Step.{toldBy, oneAfter, oneTold, oneStep}
-use Rattle.rows.specs.Rows.{channelAt, gathered, ThreeRows, Spread}
+use Rattle.rows.specs.declared.Heads.{Heads}
+use Rattle.rows.specs.Rows.{channelOf, gathered, ThreeRows, Spread}
 
 -- ---- lists
 map-set : {A B : Type 0} (f : A → B) (l : List A) (i : ℕ) (x : A) → set (map f l) i (f x) ≡ map f (set l i x)
@@ -39,7 +39,7 @@ three-of (a ∷ b ∷ c ∷ d ∷ l) h = absurd (let k : length (a ∷ b ∷ c �
 
 module _ (p : Part) (h : Heads) (sla lens s k set′ : List (List ℕ)) (w : Spread p h sla lens s k set′) where
   -- ---- channel c
-  pub spread-at : (c : ℕ) → c < 3 → channelAt h sla lens s k set′ c ≡ chan p c
+  pub spread-at : (c : ℕ) → c < 3 → channelOf h sla lens s k set′ c ≡ chan p c
   spread-at c q =
       let l = p .channels in
       let i : c < length l = omega (arith, w .three, q) in
@@ -74,7 +74,7 @@ module _ (p : Part) (h : Heads) (sla lens s k set′ : List (List ℕ)) (w : Spr
       rw (spread-at 0 (omega arith), spread-at 1 (omega arith), spread-at 2 (omega arith), three-of (p .channels) (w .three), w .be, w .mask, w .key)
 
   -- ---- one channel anew
-  pub spread-one : (c : ℕ) (g : Head) (a b d e f : List ℕ) (t : Told)
+  spread-one : (c : ℕ) (g : Head) (a b d e f : List ℕ) (t : Told)
       → Spread (oneAfter p c (joined g a b d e f) t)
       (record { channels = set (h .channels) c g; be = t .be; mask = h .mask; key = t .key })
       (set sla c a) (set lens c b) (set s c d) (set k c e) (set set′ c f)
@@ -96,7 +96,7 @@ module _ (p : Part) (h : Heads) (sla lens s k set′ : List (List ℕ)) (w : Spr
 
   -- ---- A STEP OF ONE CHANNEL in its rows is the part's: r is what it gave, a to f are the channel's rows after it, t is what it is to the part
   module _ (m : List ℕ) (c : ℕ) (op : Op) (r : Headed) (a b d e f : List ℕ) (t : Told) (q : c < 3)
-      (does : rejoined r a b d e f ≡ servedBy (channelAt h sla lens s k set′ c) (window c m) c op) (tells : t ≡ toldBy (h .be) (h .key) c op (r .answer)) where
+      (does : rejoined r a b d e f ≡ servedBy (channelOf h sla lens s k set′ c) (window c m) c op) (tells : t ≡ toldBy (h .be) (h .key) c op (r .answer)) where
     gives : servedBy (chan p c) (window c m) c op ≡ rejoined r a b d e f
     gives = sym (does ∙ ap (λ (x : Channel). servedBy x (window c m) c op) (spread-at c q))
 

@@ -8,9 +8,9 @@ use Rattle.channel.specs.declared.state.Channel.{Channel}
 use Rattle.channel.specs.declared.state.Head.{Head}
 use Rattle.channel.specs.Head.{joined, headOf}
 use Rattle.part.specs.declared.state.Part.{Part}
-use Rattle.rows.specs.declared.Heads.{Heads}
 use Rattle.part.specs.State.{blank}
 use Rattle.part.specs.Registers.{interruptOf}
+use Rattle.rows.specs.declared.Heads.{Heads}
 
 -- the head of channel c
 abbrev pub headAt : Heads → ℕ → Head
@@ -19,12 +19,12 @@ headAt h c = getD (h .channels) c (headOf blank)
 -- ---- put together: rows of SLATABLE, TRANCONFIG, STATUS, BYTECOUNT and the settings, in this order
 
 -- channel c: its head, and row c of each
-abbrev pub channelAt : Heads → List (List ℕ) → List (List ℕ) → List (List ℕ) → List (List ℕ) → List (List ℕ) → ℕ → Channel
-channelAt h sla lens s k set c = joined (headAt h c) (getD sla c []) (getD lens c []) (getD s c []) (getD k c []) (getD set c [])
+abbrev pub channelOf : Heads → List (List ℕ) → List (List ℕ) → List (List ℕ) → List (List ℕ) → List (List ℕ) → ℕ → Channel
+channelOf h sla lens s k set c = joined (headAt h c) (getD sla c []) (getD lens c []) (getD s c []) (getD k c []) (getD set c [])
 
 abbrev pub gathered : Heads → List (List ℕ) → List (List ℕ) → List (List ℕ) → List (List ℕ) → List (List ℕ) → Part
 gathered h sla lens s k set =
-    let at = channelAt h sla lens s k set in
+    let at = channelOf h sla lens s k set in
     record { channels = at 0 ∷ at 1 ∷ at 2 ∷ []; be = h .be; mask = h .mask; key = h .key }
 
 -- a row for each channel

@@ -3,7 +3,7 @@
 ghost use mathlib.Core.Path.{_≡_};
 ghost use Prim.Native.Nat.{_<_};
 ghost use Rattle.part.specs.Registers.{pendingOf};
-ghost use Rattle.rows.specs.Rows.{headAt, channelAt, gathered, ThreeRows, Spread, Pulls};
+ghost use Rattle.rows.specs.Rows.{headAt, channelOf, gathered, ThreeRows, Spread, Pulls};
 use channel::Channel;
 use channel::Head;
 use part::Part;
@@ -70,7 +70,7 @@ impl Heads {
         c: usize,
     ) -> Channel
         requires { ⌜ c < 3 ⌝ }
-        ensures { λ r. ⌜ r ≡ channelAt self (now (sla .entry)) (now (lens .entry)) (now (status .entry)) (now (counts .entry)) (now (settings .entry)) c ⌝ }
+        ensures { λ r. ⌜ r ≡ channelOf self (now (sla .entry)) (now (lens .entry)) (now (status .entry)) (now (counts .entry)) (now (settings .entry)) c ⌝ }
     {
         let h = self.channels[c];
         h.join(sla[c], lens[c], status[c], counts[c], settings[c])

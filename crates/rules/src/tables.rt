@@ -1,6 +1,6 @@
 // What the tables say: starts, skipped transactions, and the first that is not skipped.
 ghost use mathlib.Core.Path.{_≡_};
-ghost use Prim.Native.Nat.{_+_, _*_, _<_, _≤_};
+ghost use Prim.Native.Nat.{_*_, _<_, _≤_};
 ghost use lib.ListN.{length, replicate};
 ghost use Rattle.rules.specs.Tables.{startOf, fitting, readsOf, skippedOf, firstSent, marked};
 

@@ -33,7 +33,7 @@ fn put_if(out: &mut [u8], at: usize, wanted: bool, b: u8) -> usize
     at
 }
 
-// How many decimal digits a number of two or more has.
+// How many decimal digits a number from 10 on has.
 fn width(x: u64) -> usize
     requires { ⌜ 10 ≤ x ⌝ }
     ensures { λ r. ⌜ (r ≡ length (decimalOf x)) × (r ≤ 20) ⌝ }

@@ -1,8 +1,5 @@
 -- `bench::finish` meets its contract.
-use Rattle.bench.specs.Answering.{answered}
 use Rattle.bench.specs.Laws.Lines.{put-one}
-use Rattle.channel.specs.Wires.{stopped}
-use Rattle.laws.specs.Windows.{put}
 use borrow.Author.Needs.{needs}
 use mathlib.Core.Path.{refl, sym}
 use native.Mathlib.Omega.{arith}

@@ -1,6 +1,5 @@
 -- `bench::goes_on` meets its contract.
 use Rattle.laws.specs.Cases.{cases}
-use borrow.Author.Needs.{needs}
 use Rattle.bench.proofs.goes_on.Statement.{statement}
 use Rattle.bench.proofs.goes_on.Tie as tie
 

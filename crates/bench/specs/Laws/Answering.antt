@@ -19,11 +19,11 @@ use Rattle.part.specs.declared.state.Part.{Part}
 use Rattle.part.specs.declared.state.PartAnswer.{PartAnswer}
 use Rattle.part.specs.declared.state.PartStepped.{PartStepped}
 use Rattle.part.specs.declared.state.Told.{Told}
-use Rattle.rows.specs.declared.Heads.{Heads}
 use Rattle.part.specs.Registers.{interruptOf}
-use Rattle.rows.specs.Rows.{channelAt, gathered, Spread}
 use Rattle.part.specs.State.{window, putWindow}
 use Rattle.part.specs.Step.{toldBy, oneStep, oneBytes, Whole}
+use Rattle.rows.specs.declared.Heads.{Heads}
+use Rattle.rows.specs.Rows.{channelOf, gathered, Spread}
 use Rattle.rows.specs.Laws.{spread-at, gathered-spread, one-spread, one-answer}
 use Rattle.script.specs.declared.reading.Line.{Line}
 use Rattle.script.specs.Answer.{Put, textIf, roomy, answerLine}
@@ -52,19 +52,19 @@ module _ (block : List ℕ) (s : Run) where
   goes-in g = room-in (lineEnd block (s .course .from)) (length block) (s .course .at) g
 
   -- one line, and then what is left
-  pub record More (n : ℕ) : Type 0 where
-    pub left : ℕ
-    pub same : answered block n s ≡ answered block left (oneLine block s)
-    pub enough : length block ≤ left + (lineEnd block (s .course .from) + 1)
+  record More (n : ℕ) : Type 0 where
+    left : ℕ
+    same : answered block n s ≡ answered block left (oneLine block s)
+    enough : length block ≤ left + (lineEnd block (s .course .from) + 1)
 
-  pub answered-more : (n : ℕ) → goesOn block s ≡ true → length block ≤ n + s .course .from → More n
+  answered-more : (n : ℕ) → goesOn block s ≡ true → length block ≤ n + s .course .from → More n
   unfolding answered if_then_else_
   answered-more zero g h = absurd (let a = end-after block (s .course .from) in let b = goes-in g in omega (arith, a, b, h))
   answered-more (suc n) g h =
       let a = end-after block (s .course .from) in
       record { left = n; same = rw g; enough = omega (arith, a, h) }
 
-  pub answered-done : (n : ℕ) → goesOn block s ≡ false → answered block n s ≡ s
+  answered-done : (n : ℕ) → goesOn block s ≡ false → answered block n s ≡ s
   unfolding answered if_then_else_
   answered-done zero g = refl
   answered-done (suc n) g = rw g
@@ -78,9 +78,9 @@ pub record Does (p : Part) (m : List ℕ) (l : Line) (h : Heads) (sla lens s k s
 module _ (p : Part) (m : List ℕ) (h : Heads) (sla lens s k set′ : List (List ℕ)) (w : Spread p h sla lens s k set′) (y : Whole p m) (a : Aim) (l : Line) (g : a ≡ aimOf l) where
   -- a line of channel c
   pub does-one : (c : ℕ) (op : Op) (r : Headed) (x₁ x₂ x₃ x₄ x₅ : List ℕ) (t : Told) (n : List ℕ) → c < 3 → a ≡ One op c
-      → rejoined r x₁ x₂ x₃ x₄ x₅ ≡ servedBy (channelAt h sla lens s k set′ c) (window c m) c op
+      → rejoined r x₁ x₂ x₃ x₄ x₅ ≡ servedBy (channelOf h sla lens s k set′ c) (window c m) c op
       → t ≡ toldBy (h .be) (h .key) c op (r .answer)
-      → n ≡ putWindow c (servedStore (channelAt h sla lens s k set′ c) (window c m) c op) m
+      → n ≡ putWindow c (servedStore (channelOf h sla lens s k set′ c) (window c m) c op) m
       → Does p m l (record { channels = set (h .channels) c (r .head); be = t .be; mask = h .mask; key = t .key })
       (set sla c x₁) (set lens c x₂) (set s c x₃) (set k c x₄) (set set′ c x₅) (t .answer) n
   unfolding oneBytes
@@ -126,7 +126,7 @@ module _ (block : List ℕ) (s₀ : Run) (h : Heads) (sla lens s k set′ : List
   run : Run
   run = record { course = record { part = w .part; step = step; from = from; at = at }; memory = m; out = o }
 
-  pub going-line : (l : Line) → l ≡ lineOf (take (end - from) (drop from block)) → l ≡ lineAt block from
+  going-line : (l : Line) → l ≡ lineOf (take (end - from) (drop from block)) → l ≡ lineAt block from
   unfolding lineAt lineEnd
   going-line l e =
       let n : end - from ≡ firstLf (drop from block) = ap (λ (x : ℕ). x - from) (w .here) ∙ add-sub-cancel-left from _ in

@@ -84,9 +84,6 @@ keeps-none : Keeps noLine []
 keeps-none = record { count = refl; room = length-replicate {A = ℕ} 12 0; bytes = refl }
 
 module _ (s : Start) (l : List ℕ) (b : ℕ) (k : Keeps s l) where
-  least : length (take 12 l) ≤ 12
-  least = simp length-take (omega arith)
-
   -- a byte that is kept
   kept-byte : s .len < 12 → Keeps (record { bytes = set (s .bytes) (s .len) b; len = s .len + 1 }) (l ++ (b ∷ []))
   kept-byte h =

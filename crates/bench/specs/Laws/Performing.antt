@@ -1,4 +1,4 @@
--- A line does the same by whom it concerns as by its step, also where its channel is served in its place.
+-- A line does the same by whom it concerns as by its step, and leaves what no. 9 does not refuse.
 use Prim.Native.Nat.{ℕ}
 use mathlib.Core.List.{List}
 use mathlib.Core.Path.{_≡_, refl, sym, _∙_}

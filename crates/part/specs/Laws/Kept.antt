@@ -112,7 +112,7 @@ module _ (p : Part) (h : In p) where
   served-in m (One op c) = one-in m c op
   served-in m (All t) = all-in t
 
--- a channel's step does not
+-- a channel's step does not lead out of range
 pub one-in-range : (p : Part) (m : List ℕ) (c : ℕ) (op : Op) → partIn p ≡ true → partIn (oneStep p m c op .part) ≡ true
 unfolding Good
 one-in-range p m c op e = of-in _ (one-in p (in-of p e) m c op)
@@ -129,7 +129,7 @@ pub fresh-part-in-range : partIn freshPart ≡ true
 fresh-part-in-range = of-in freshPart fresh-in
 
 -- ---- A STEP KEEPS THE NUMBER OF BYTES
-pub wiped-length : length wiped ≡ 13056
+wiped-length : length wiped ≡ 13056
 unfolding wiped
 wiped-length = length-replicate {A = ℕ} 13056 0
 

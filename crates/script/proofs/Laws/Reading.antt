@@ -1,4 +1,4 @@
--- A line against a form, one law for each way that the loop of `fits` ends or goes on; and what stands past a line's end.
+-- A line against a form, one law for each way that the loop of `fits` ends or goes on; what stands past a line's end; what a hex digit is.
 use mathlib.Core.Bool.{Bool, true, false}
 use mathlib.Core.List.{List}
 use mathlib.Core.Path.{_≡_, sym, _∙_}
@@ -37,7 +37,7 @@ module _ (f l : List ℕ) (i : ℕ) (r b : Bool) (e : length f ≡ length l) (p 
   unfolding if_then_else_
   fit-not t = sym (rw t at opened)
 
--- ---- a hex digit is 0 or above, or A to F
+-- ---- a hex digit below 58 is 48 or more, any other is 65 to 70
 pub hex-low : (b : ℕ) → isHex b ≡ true → b < 58 → 48 ≤ b
 unfolding isHex if_then_else_
 hex-low b e h = leb-true 48 b (rw (lt-ltb b 58 h) at e)

@@ -4,10 +4,10 @@ use Rattle.bench.specs.Answering.{hasRoom}
 use Rattle.bench.specs.Laws.Answering.{Does, Going, does-one, does-rest, going-done, going-on, put-length, room-in}
 use Rattle.bench.specs.Laws.Lines.{end-after, end-in}
 use Rattle.part.specs.Laws.Kept.{chan-accepted}
-use Rattle.rows.specs.Laws.{gathered-spread, spread-at, spread-rows}
-use Rattle.rows.specs.Rows.{gathered}
 use Rattle.part.specs.State.{putWindow, window}
 use Rattle.part.specs.Step.{oneBytes}
+use Rattle.rows.specs.Laws.{gathered-spread, spread-at, spread-rows}
+use Rattle.rows.specs.Rows.{gathered}
 use borrow.Author.Needs.{needs}
 use lib.ListN.{length}
 use lib.Seq.{drop-drop}

@@ -1,7 +1,6 @@
 -- `bench::answering::has_room` meets its contract.
 use Rattle.bench.specs.Answering.{hasRoom}
 use Rattle.laws.specs.Cases.{cases}
-use borrow.Author.Needs.{needs}
 use Rattle.bench.proofs.answering.has_room.Statement.{statement}
 use Rattle.bench.proofs.answering.has_room.Tie as tie
 

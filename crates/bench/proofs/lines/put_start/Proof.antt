@@ -1,5 +1,4 @@
 -- `bench::lines::put_start` meets its contract.
-use Rattle.laws.specs.Windows.{put}
 use borrow.Author.Needs.{needs}
 use lib.ListN.{length}
 use lib.Seq.{length-sets, length-take-le}

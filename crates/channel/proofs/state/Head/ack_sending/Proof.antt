@@ -1,7 +1,6 @@
 -- `channel::state::Head::ack_sending` meets its contract.
 use Rattle.channel.specs.Wires.{ackSending, countedOne}
 use borrow.Author.Needs.{needs}
-use lib.ListN.{set}
 use Rattle.channel.proofs.state.Head.ack_sending.Statement.{statement}
 use Rattle.channel.proofs.state.Head.ack_sending.Tie as tie
 

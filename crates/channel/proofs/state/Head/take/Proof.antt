@@ -1,7 +1,6 @@
 -- `channel::state::Head::take` meets its contract.
 use Rattle.channel.specs.Wires.{countedOne, received}
 use borrow.Author.Needs.{needs}
-use lib.ListN.{set}
 use Rattle.channel.proofs.state.Head.take.Statement.{statement}
 use Rattle.channel.proofs.state.Head.take.Tie as tie
 
