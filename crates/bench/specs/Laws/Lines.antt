@@ -45,7 +45,7 @@ module _ (block : List ℕ) (from : ℕ) where
       let e : firstLf (drop from block) ≡ firstLf (drop (from + 1) block) + 1 = ap firstLf (drop-cons block from 0 h) ∙ rw (t, n) in
       omega (arith, e)
 
--- and so on: what is the end of the line from k bytes further on is that from one more
+-- the same k bytes further on, of any place that is the line's end from there
 pub end-past : (block : List ℕ) (from k : ℕ) {end : ℕ} → end ≡ lineEnd block (from + k) → from + k < length block → eqb (getD block (from + k) 0) 10 ≡ false → end ≡ lineEnd block (from + suc k)
 end-past block from k e h t =
     let n : from + k + 1 ≡ from + suc k = omega arith in
