@@ -7,7 +7,7 @@ ghost use Rattle.rules.specs.Registers.{bitOf};
 ghost use Rattle.rules.specs.Tables.{startOf, Running};
 ghost use Rattle.sequence.specs.Wires.{Exists, Ready, haltedOf, nextOf, restOf, endingOf, againBy};
 ghost use Rattle.sequence.specs.Walk.{idle, nackFlags, errorNoted, lateFlags, lateWalk, faultFlags};
-ghost use Rattle.channel.specs.Head.{joined, told, headWalk, headFlags, inPhase, endedSo, Turns, Counts, Starts, Begins, Walks, Sends};
+ghost use Rattle.channel.specs.Head.{joined, told, headWalk, headFlags, inPhase, endedSo, Writes, Turns, Counts, Starts, Begins, Walks, Sends};
 ghost use Rattle.channel.specs.Range.{inRange};
 ghost use Rattle.channel.specs.Wires.{movedTo, onward, finished, startedBy, started, beganBy, begun, sendOn, ackAddress, ackSending, receiveOn, received, failedBy, nacked, turned, turnStore, beaten, triggered, cleared, haltOf, lengthOf, Counting, Meets};
 use crate::state::Channel;
@@ -502,29 +502,23 @@ impl Head {
             Beat::Late => self.be_late().answer(0),
         }
     }
-}
 
-impl Channel {
-    // A trigger edge's effect on this channel, for the whole part's step.
-    pub fn trigger(self, edge: Edge) -> Stepped
-        requires { ⌜ inRange self ≡ true ⌝ }
-        ensures { λ r. ⌜ r ≡ triggered self edge ⌝ }
+    // A trigger edge's effect on a channel that is in range, over its tables.
+    pub fn trigger_lent<'a>(
+        self,
+        sla: &'a mut [u8; 64],
+        lens: &'a mut [u8; 65],
+        status: &'a mut [u8; 64],
+        counts: &'a mut [u8; 64],
+        settings: &'a mut [u8; 6],
+        edge: Edge,
+    ) -> Headed
+        requires { ⌜ inRange (joined self (now sla) (now lens) (now status) (now counts) (now settings)) ≡ true ⌝ }
+        ensures { λ r. ⌜ Writes (λ c. triggered c edge) self (now (sla .entry)) (now (lens .entry)) (now (status .entry)) (now (counts .entry)) (now (settings .entry)) r (now (sla .exit)) (now (lens .exit)) (now (status .exit)) (now (counts .exit)) (now (settings .exit)) ⌝ }
     {
-        let sla = self.slatable;
-        let lens = self.tranconfig;
-        let mut status = self.status;
-        let mut counts = self.bytecount;
-        let settings = self.settings;
         let walk = self.walk;
         let p = walk.phase;
         let b = sequence::edge_beat(p, self.regs.te, self.regs.tp, edge);
-        let h = self.head();
-        let r = h.beat(&sla, &lens, &mut status, &mut counts, &settings, b);
-        let g = r.head;
-        let answer = r.answer;
-        Stepped {
-            channel: g.join(sla, lens, status, counts, settings),
-            answer,
-        }
+        self.beat(sla, lens, status, counts, settings, b)
     }
 }

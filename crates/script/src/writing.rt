@@ -186,7 +186,7 @@ fn has_room(len: usize, at: usize) -> bool
 
 fn put_line(step: u64, reply: PartAnswer, int: bool, out: &mut [u8], at: usize) -> usize
     requires { ⌜ at + 80 ≤ length (now out) ⌝ }
-    ensures { λ r. ⌜ Put (now (out .entry)) at (answerLine step reply int) r (now (out .exit)) ⌝ }
+    ensures { λ r. ⌜ Put (now (out .entry)) at (answerLine step reply int) r (now (out .exit)) × (r ≤ at + 80) ⌝ }
 {
     let acts = reply.actions;
     let p = put_decimal(out, at, step);
@@ -209,7 +209,7 @@ pub fn write_header(out: &mut [u8], at: usize) -> usize
 
 // Puts the line of an answer, that of step number `step` after which INT is `int`, in the same way.
 pub fn write_answer(step: u64, reply: PartAnswer, int: bool, out: &mut [u8], at: usize) -> usize
-    ensures { λ r. ⌜ Put (now (out .entry)) at (textIf (roomy (length (now (out .entry))) at) (answerLine step reply int)) r (now (out .exit)) ⌝ }
+    ensures { λ r. ⌜ Put (now (out .entry)) at (textIf (roomy (length (now (out .entry))) at) (answerLine step reply int)) r (now (out .exit)) × (r ≤ at + 80) ⌝ }
 {
     if has_room(out.len(), at) {
         return put_line(step, reply, int, out, at);

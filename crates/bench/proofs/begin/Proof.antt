@@ -1,6 +1,6 @@
--- `bench::begin` meets its contract.
+-- `bench::begin` meets its contract: the header stands in the output.
+use Rattle.bench.specs.Laws.Blocks.{header-put, opens}
 use borrow.Author.Needs.{needs}
-use mathlib.Core.Path.{refl}
 use Rattle.bench.proofs.begin.Statement.{statement}
 use Rattle.bench.proofs.begin.Tie as tie
 
@@ -11,6 +11,14 @@ begin-spec =
     (λ c. λ κs. search needs)
     (λ c. λ κs. search needs)
     (λ c. λ κs. search needs)
-    (λ c. λ κs. search needs)
+    (λ c. λ κs.
+    let put = c .before .before .before .before .before in
+    let start = put .before .before .before in
+    header-put _ _ _ (start .pre) (put .write-header .ensures) .0)
     (λ c. search needs)
-    (λ c. (c .before .before .before .new .ensures, refl, c .before .before .no-line .ensures)))
+    (λ c.
+    let none = c .before .before in
+    let new = none .before in
+    let put = new .before .before .before in
+    let start = put .before .before .before in
+    record { stands = opens _ _ (put .write-header .result) (new .new .ensures) (none .no-line .ensures); said = header-put _ _ _ (start .pre) (put .write-header .ensures) .1; written = c .written .ensures }))

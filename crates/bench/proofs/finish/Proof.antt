@@ -1,8 +1,11 @@
--- `bench::finish` meets its contract.
-use Rattle.bench.specs.Laws.Lines.{put-one}
+-- `bench::finish` meets its contract: an LF is put behind the last line, if that has a byte.
+use Prim.Native.Nat.{ℕ}
+use Rattle.bench.specs.Laws.Blocks.{last-heard, silent-closed}
+use Rattle.runner.specs.Laws.Lines.{put-one}
 use borrow.Author.Needs.{needs}
-use mathlib.Core.Path.{refl, sym}
-use native.Mathlib.Omega.{arith}
+use lib.ListN.{drop, take}
+use mathlib.Core.List.{List}
+use mathlib.Core.Path.{_∙_, ap}
 use Rattle.bench.proofs.finish.Statement.{statement}
 use Rattle.bench.proofs.finish.Tie as tie
 
@@ -13,10 +16,18 @@ finish-spec =
     (λ c. search needs)
     (λ c. λ κs. search needs)
     (λ c. λ κs. search needs)
+    (λ c. search needs)
+    (λ c. search needs)
+    (λ c. search needs)
+    (λ c.
+    let answered = c .before .before .before .before .before .before in
+    let put = answered .before .before .before .before .before .before in
+    let test = put .before .before .before in
+    let start = test .before .before .before .before .before .before in
+    last-heard (start .args .s) _ _ _ _ _ (ap (λ (x : List ℕ). take 1 (drop 12 x)) (put .put .ensures .bytes) ∙ put-one (start .args .block .now) 10 (start .pre .1))
+    (answered .answer-from .ensures .1 .1) (test .if1 .taken) (answered .answer-from .ensures .0))
     (λ c. λ κs. search needs)
-    (λ c. search needs)
-    (λ c. search needs)
-    (λ c. search needs)
-    (λ c. record { stopped = c .stop .ensures .1; nothing = λ e. absurd (omega (arith, e, c .before .before .before .before .before .before .before .before .before .before .before .before .before .before .before .before .if1 .taken)); last = λ _. record { after = c .before .before .before .before .before .before .before .answer-from .result; part = sym (c .stop .ensures .0); answered = rw (c .before .before .before .before .before .before .before .before .before .before .before .before .before .put .ensures .bytes, put-one (c .before .before .before .before .before .before .before .before .before .before .before .before .before .before .before .before .before .before .before .before .before .before .args .block .now) 10 (c .before .before .before .before .before .before .before .before .before .before .before .before .before .before .before .before .before .before .before .before .before .before .pre .1)) at (c .before .before .before .before .before .before .before .answer-from .ensures) }; whole = rw (c .stop .ensures .0) (c .before .before .before .before .before .before .before .answer-from .ensures .whole) })
-    (λ c. λ κs. search needs)
-    (λ c. record { stopped = c .stop2 .ensures .1; nothing = λ _. (c .stop2 .ensures .0, refl); last = λ h. absurd (omega (arith, h, c .before .if1 .left)); whole = rw (c .stop2 .ensures .0) (c .before .before .before .before .before .before .before .pre .0) }))
+    (λ c.
+    let test = c .before in
+    let start = test .before .before .before .before .before .before in
+    silent-closed (start .args .s) _ _ _ (c .silent .ensures) (test .if1 .left) (start .pre .0)))

@@ -19,9 +19,9 @@ use Rattle.part.specs.declared.map.Ctrl.{Ctrl}
 use Rattle.part.specs.declared.map.Ctrl.the-variants.{Ctrlstatus, Ctrlintmsk, Reserved, DeviceId, Ctrlpreset, Nothing, Ctrlrdy}
 use Rattle.part.specs.declared.map.Step.{Step}
 use Rattle.part.specs.declared.map.Target.{Target}
-use Rattle.part.specs.declared.map.Common.{Common}
+use Rattle.part.specs.declared.map.Wide.{Wide}
 use Rattle.part.specs.declared.map.Target.the-variants.{One, All}
-use Rattle.part.specs.declared.map.Common.the-variants.{CtrlWrite, CtrlRead, AllTrigger, AllReset, Beyond}
+use Rattle.part.specs.declared.map.Wide.the-variants.{CtrlWrite, CtrlRead, AllTrigger, AllReset, Beyond}
 use Rattle.part.specs.declared.state.Part.{Part}
 use Rattle.part.specs.declared.state.PartStepped.{PartStepped}
 use Rattle.part.specs.State.{blank, chan, freshPart, wiped, window, withKey}
@@ -99,7 +99,7 @@ module _ (p : Part) (h : In p) where
   unfolding ctrlPut Good
   put-in reg v = pick-holds Good (resetsOf (ctrlpresetOf reg) v (p .key)) (λ _. fresh-in) (λ _. written-in (keyAfter (ctrlpresetOf reg) v) reg v)
 
-  all-in : (t : Common) → Good (allServed p t)
+  all-in : (t : Wide) → Good (allServed p t)
   unfolding allServed Good
   all-in (CtrlWrite reg v) = put-in reg v
   all-in (CtrlRead reg) = read-in reg
@@ -144,7 +144,7 @@ module _ (p : Part) (m : List ℕ) (whole : length m ≡ 13056) where
   unfolding oneBytes
   one-bytes-length c op h = length-put c _ m (one-length c op h) (fits c m h whole)
 
-  all-length : (t : Common) → length (allStored p m t) ≡ length m
+  all-length : (t : Wide) → length (allStored p m t) ≡ length m
   unfolding allStored ctrlStore Same
   all-length (CtrlWrite reg v) = pick-holds (Same m) (resetsOf (ctrlpresetOf reg) v (p .key)) (λ _. wiped-length ∙ sym whole) (λ _. refl)
   all-length (CtrlRead reg) = refl

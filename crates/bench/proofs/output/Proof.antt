@@ -1,0 +1,12 @@
+-- `bench::output` meets its contract.
+use Prim.Native.Nat.{ℕ}
+use borrow.Author.Needs.{needs}
+use lib.ListN.{length-replicate}
+use Rattle.bench.proofs.output.Statement.{statement}
+use Rattle.bench.proofs.output.Tie as tie
+
+pub output-spec : {M : Type 1} → statement M
+output-spec =
+    tie.close
+    (tie.spec
+    (λ c. length-replicate {A = ℕ} 655360 0))
