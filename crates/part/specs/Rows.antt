@@ -1,111 +1,180 @@
--- The part taken apart: the heads of its channels, what it has beside them, and the channels' tables, each in a list with a row for each channel.
+-- The part taken apart: its channels' heads and what it has beside its channels, which go by value, and the channels' tables in rows, which are lent.
 use Prim.Native.Nat.{ℕ, _<_}
-use mathlib.Core.Bool.{Bool, true}
+use mathlib.Core.Bool.{Bool}
 use mathlib.Core.List.{List, [], _∷_, map}
 use mathlib.Core.Path.{_≡_}
+use denote.Ref.{RefT, now}
+use denote.Triple.Both.{Both}
 use lib.ListN.{length, getD, set}
-use Rattle.channel.specs.declared.state.Answer.{Answer}
+use Rattle.sequence.specs.declared.wires.Edge.{Edge}
 use Rattle.channel.specs.declared.state.Channel.{Channel}
 use Rattle.channel.specs.declared.state.Head.{Head}
 use Rattle.channel.specs.declared.state.Headed.{Headed}
 use Rattle.channel.specs.declared.state.Stepped.{Stepped}
 use Rattle.channel.specs.declared.step.Op.{Op}
 use Rattle.channel.specs.Head.{joined, headOf}
-use Rattle.channel.specs.Step.{servedBy, servedStore}
-use Rattle.part.specs.declared.map.Wide.{Wide}
-use Rattle.part.specs.declared.map.Step.{Step}
+use Rattle.channel.specs.Step.{servedBy, servedStore, Accepted}
+use Rattle.channel.specs.Wires.{triggered}
 use Rattle.part.specs.declared.rows.Common.{Common}
 use Rattle.part.specs.declared.rows.Heads.{Heads}
 use Rattle.part.specs.declared.rows.HeadsStepped.{HeadsStepped}
 use Rattle.part.specs.declared.rows.OneStepped.{OneStepped}
 use Rattle.part.specs.declared.state.Part.{Part}
 use Rattle.part.specs.declared.state.PartStepped.{PartStepped}
-use Rattle.part.specs.declared.state.PartAnswer.{PartAnswer}
-use Rattle.part.specs.State.{blank, onlyAt, window, putWindow}
+use Rattle.part.specs.State.{blank, window, putWindow}
 use Rattle.part.specs.Registers.{ctrlstatusOf, interruptOf}
-use Rattle.part.specs.Step.{beAfter, keyKept, allServed, allStored, partStep, partBytes, commonAfter, answerAt}
+use Rattle.part.specs.Step.{commonAfter, commonOf, answerAt, Whole}
+
+-- the tables of all channels: SLATABLE, TRANCONFIG, STATUS, BYTECOUNT and the settings, each in a list with a row for each channel
+pub record Rows : Type 0 where
+  pub slas : List (List ℕ)
+  pub lengths : List (List ℕ)
+  pub statuses : List (List ℕ)
+  pub counts : List (List ℕ)
+  pub stored : List (List ℕ)
+
+-- three rows of each
+pub record Three (t : Rows) : Type 0 where
+  pub slas : length (t .slas) ≡ 3
+  pub lengths : length (t .lengths) ≡ 3
+  pub statuses : length (t .statuses) ≡ 3
+  pub counts : length (t .counts) ≡ 3
+  pub stored : length (t .stored) ≡ 3
+
+-- ---- TAKEN APART
+
+abbrev pub headsOf : Part → Heads
+headsOf p = record { channels = map headOf (p .channels); common = commonOf p }
+
+abbrev pub tablesOf : List Channel → Rows
+tablesOf l = record {
+  slas = map (λ (x : Channel). x .slatable) l;
+  lengths = map (λ (x : Channel). x .tranconfig) l;
+  statuses = map (λ (x : Channel). x .status) l;
+  counts = map (λ (x : Channel). x .bytecount) l;
+  stored = map (λ (x : Channel). x .settings) l;
+}
+
+abbrev pub rowsOf : Part → Rows
+rowsOf p = tablesOf (p .channels)
+
+-- these heads and rows are those of the part p
+pub record Holds (p : Part) (h : Heads) (t : Rows) : Type 0 where
+  pub heads : h ≡ headsOf p
+  pub rows : t ≡ rowsOf p
+  pub three : length (p .channels) ≡ 3
+
+-- ---- PUT TOGETHER
 
 -- the head of channel c
 abbrev pub headAt : Heads → ℕ → Head
 headAt h c = getD (h .channels) c (headOf blank)
 
--- ---- put together: rows of SLATABLE, TRANCONFIG, STATUS, BYTECOUNT and the settings, in this order
-
 -- the channel of this head and row c of each
-abbrev pub channelIn : Head → List (List ℕ) → List (List ℕ) → List (List ℕ) → List (List ℕ) → List (List ℕ) → ℕ → Channel
-channelIn h sla lens s k set c = joined h (getD sla c []) (getD lens c []) (getD s c []) (getD k c []) (getD set c [])
+abbrev pub channelIn : Head → Rows → ℕ → Channel
+channelIn h t c =
+    joined h (getD (t .slas) c []) (getD (t .lengths) c []) (getD (t .statuses) c []) (getD (t .counts) c []) (getD (t .stored) c [])
 
-abbrev pub channelOf : Heads → List (List ℕ) → List (List ℕ) → List (List ℕ) → List (List ℕ) → List (List ℕ) → ℕ → Channel
-channelOf h sla lens s k set c = channelIn (headAt h c) sla lens s k set c
+abbrev pub channelAt : Heads → Rows → ℕ → Channel
+channelAt h t c = channelIn (headAt h c) t c
 
-abbrev pub gathered : Heads → List (List ℕ) → List (List ℕ) → List (List ℕ) → List (List ℕ) → List (List ℕ) → Part
-gathered h sla lens s k set =
-    let at = channelOf h sla lens s k set in
-    record { channels = at 0 ∷ at 1 ∷ at 2 ∷ []; be = h .common .be; mask = h .common .mask; key = h .common .key }
+-- the part of these heads and rows
+abbrev pub gathered : Heads → Rows → Part
+gathered h t = record {
+  channels = channelAt h t 0 ∷ channelAt h t 1 ∷ channelAt h t 2 ∷ [];
+  be = h .common .be;
+  mask = h .common .mask;
+  key = h .common .key;
+}
 
--- a row for each channel
-pub record ThreeRows (sla lens s k set : List (List ℕ)) : Type 0 where
-  pub slas : length sla ≡ 3
-  pub lengths : length lens ≡ 3
-  pub statuses : length s ≡ 3
-  pub counts : length k ≡ 3
-  pub stored : length set ≡ 3
+-- ---- rows that are lent to a call, always in the order SLATABLE, TRANCONFIG, STATUS, BYTECOUNT, settings
 
--- ---- taken apart: each row is the table of its channel
-pub record Spread (p : Part) (h : Heads) (sla lens s k set : List (List ℕ)) : Type 0 where
-  pub heads : h .channels ≡ map headOf (p .channels)
-  pub slas : sla ≡ map (λ (c : Channel). c .slatable) (p .channels)
-  pub lengths : lens ≡ map (λ (c : Channel). c .tranconfig) (p .channels)
-  pub statuses : s ≡ map (λ (c : Channel). c .status) (p .channels)
-  pub counts : k ≡ map (λ (c : Channel). c .bytecount) (p .channels)
-  pub stored : set ≡ map (λ (c : Channel). c .settings) (p .channels)
-  pub be : h .common .be ≡ p .be
-  pub mask : h .common .mask ≡ p .mask
-  pub key : h .common .key ≡ p .key
-  pub three : length (p .channels) ≡ 3
+abbrev pub Table : Type 0
+Table = RefT (List (List ℕ))
 
--- CTRLSTATUS of the part with these heads, whatever its tables
-abbrev pub Shows : Heads → ℕ → Type 0
-Shows h r = (sla lens s k set : List (List ℕ)) → r ≡ ctrlstatusOf (gathered h sla lens s k set)
+-- what stands in them, for a `requires`
+abbrev pub rowsIn : Table → Table → Table → Table → Table → Rows
+rowsIn sla lens status counts settings =
+    record { slas = now sla; lengths = now lens; statuses = now status; counts = now counts; stored = now settings }
 
--- INT of the part with these heads, whatever its tables
-abbrev pub Pulls : Heads → Bool → Type 0
-Pulls h r = (sla lens s k set : List (List ℕ)) → r ≡ interruptOf (gathered h sla lens s k set)
+abbrev pub Lent : Type 0
+Lent = Both Table Table
 
--- ---- the rows after a step of channel c that gave x: its tables stand in row c, and every other row is as it was
-pub record RowsAfter (c : ℕ) (x : Channel) (sla lens s k set′ sla′ lens′ s′ k′ set″ : List (List ℕ)) : Type 0 where
-  pub slas : sla′ ≡ set sla c (x .slatable)
-  pub lengths : lens′ ≡ set lens c (x .tranconfig)
-  pub statuses : s′ ≡ set s c (x .status)
-  pub counts : k′ ≡ set k c (x .bytecount)
-  pub stored : set″ ≡ set set′ c (x .settings)
+-- and for an `ensures`: what the call finds in them, and what it leaves
+abbrev pub rowsFound : Lent → Lent → Lent → Lent → Lent → Rows
+rowsFound sla lens status counts settings = rowsIn (sla .entry) (lens .entry) (status .entry) (counts .entry) (settings .entry)
 
--- what a step of channel c gives back, from what the channel's own step gave
-abbrev pub oneOf : Common → ℕ → Op → Stepped → OneStepped
-oneOf k c op r = record { head = headOf (r .channel); common = commonAfter k op (r .answer); answer = answerAt c (r .answer) }
+abbrev pub rowsLeft : Lent → Lent → Lent → Lent → Lent → Rows
+rowsLeft sla lens status counts settings = rowsIn (sla .exit) (lens .exit) (status .exit) (counts .exit) (settings .exit)
 
--- the heads with those of channel c put anew
-abbrev pub storedHead : Heads → ℕ → OneStepped → Heads
-storedHead h c r = record { channels = set (h .channels) c (r .head); common = r .common }
+-- the part that a call finds in the heads that it gets and the rows that it is lent
+abbrev pub found : Heads → Lent → Lent → Lent → Lent → Lent → Part
+found h sla lens status counts settings = gathered h (rowsFound sla lens status counts settings)
 
--- a step of the part p, done in its rows: they hold the part after it
-pub record Does (q : PartStepped) (n : List ℕ) (h : Heads) (a : PartAnswer) (sla lens s k set : List (List ℕ)) (m : List ℕ) : Type 0 where
-  pub spread : Spread (q .part) h sla lens s k set
-  pub answer : a ≡ q .answer
-  pub memory : m ≡ n
+-- ---- a step of the part, in heads and rows
 
--- what the registers of the part answer, whatever the tables; no head is changed
+-- what it may rely on: there are three of each, and no. 9 does not refuse the part
+pub record Ready (h : Heads) (t : Rows) (m : List ℕ) : Type 0 where
+  pub heads : length (h .channels) ≡ 3
+  pub rows : Three t
+  pub whole : Whole (gathered h t) m
+
+-- what it gives where the part's own step gives q
+pub record Gives (q : PartStepped) (r : HeadsStepped) (t : Rows) : Type 0 where
+  pub holds : Holds (q .part) (r .heads) t
+  pub answer : r .answer ≡ q .answer
+
+-- ---- a step that looks at no table and changes none: what it gives where the part's own rule is f, whatever the rows
+
+abbrev pub givenIn : HeadsStepped → Rows → PartStepped
+givenIn r t = record { part = gathered (r .heads) t; answer = r .answer }
+
 abbrev pub Tells : (Part → PartStepped) → Heads → HeadsStepped → Type 0
-Tells f h r =
-    (r .heads .channels ≡ h .channels)
-    × ((sla lens s k set : List (List ℕ)) → record { part = gathered (r .heads) sla lens s k set; answer = r .answer } ≡ f (gathered h sla lens s k set))
+Tells f h r = (r .heads .channels ≡ h .channels) × ((t : Rows) → givenIn r t ≡ f (gathered h t))
 
--- the heads of a part
-abbrev pub HeadsOf : Part → Heads → Type 0
-HeadsOf p h =
-    Spread p h (map (λ (c : Channel). c .slatable) (p .channels)) (map (λ (c : Channel). c .tranconfig) (p .channels)) (map (λ (c : Channel). c .status) (p .channels))
-    (map (λ (c : Channel). c .bytecount) (p .channels)) (map (λ (c : Channel). c .settings) (p .channels))
+-- CTRLSTATUS and INT
+abbrev pub Shows : Heads → ℕ → Type 0
+Shows h r = (t : Rows) → r ≡ ctrlstatusOf (gathered h t)
 
--- what a step over lent tables gives back
-abbrev pub headedOf : Stepped → Headed
-headedOf x = record { head = headOf (x .channel); answer = x .answer }
+abbrev pub Pulls : Heads → Bool → Type 0
+Pulls h r = (t : Rows) → r ≡ interruptOf (gathered h t)
+
+-- ---- a step of channel c, in its own row
+
+-- row c of each is the table of x, and every other row is as it was
+abbrev pub withRow : Rows → ℕ → Channel → Rows
+withRow t c x = record {
+  slas = set (t .slas) c (x .slatable);
+  lengths = set (t .lengths) c (x .tranconfig);
+  statuses = set (t .statuses) c (x .status);
+  counts = set (t .counts) c (x .bytecount);
+  stored = set (t .stored) c (x .settings);
+}
+
+-- what an access or an event may rely on
+pub record OneReady (h : Head) (t : Rows) (m : List ℕ) (c : ℕ) : Type 0 where
+  pub below : c < 3
+  pub memory : length m ≡ 13056
+  pub accepted : Accepted (channelIn h t c) (window c m)
+
+-- what channel c answers, on its own 4,352 bytes
+abbrev pub servedIn : Head → Rows → List ℕ → ℕ → Op → Stepped
+servedIn h t m c op = servedBy (channelIn h t c) (window c m) c op
+
+-- and what comes of it: the head, what the part has beside its channels, the answer; row c; and the bytes
+abbrev pub oneOf : Common → ℕ → Op → Stepped → OneStepped
+oneOf k c op x = record { head = headOf (x .channel); common = commonAfter k op (x .answer); answer = answerAt c (x .answer) }
+
+pub record OneGives (h : Head) (k : Common) (t : Rows) (m : List ℕ) (c : ℕ) (op : Op) (r : OneStepped) (t′ : Rows) (m′ : List ℕ) : Type 0 where
+  pub given : r ≡ oneOf k c op (servedIn h t m c op)
+  pub rows : t′ ≡ withRow t c (servedIn h t m c op .channel)
+  pub memory : m′ ≡ putWindow c (servedStore (channelIn h t c) (window c m) c op) m
+
+-- its head and what is beside the channels are stored, and its answer is the part's
+abbrev pub oneStored : Heads → ℕ → OneStepped → HeadsStepped
+oneStored h c r = record { heads = record { channels = set (h .channels) c (r .head); common = r .common }; answer = r .answer }
+
+-- a trigger edge on channel c
+pub record EdgeGives (h : Head) (t : Rows) (c : ℕ) (edge : Edge) (r : Headed) (t′ : Rows) : Type 0 where
+  pub given : r ≡ record { head = headOf (triggered (channelIn h t c) edge .channel); answer = triggered (channelIn h t c) edge .answer }
+  pub rows : t′ ≡ withRow t c (triggered (channelIn h t c) edge .channel)

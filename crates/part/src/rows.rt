@@ -5,14 +5,13 @@ ghost use mathlib.Core.List.{[], _∷_};
 ghost use mathlib.Core.Path.{_≡_};
 ghost use Prim.Native.Nat.{_<_};
 ghost use lib.ListN.{length};
-ghost use Rattle.channel.specs.Range.{inRange};
-ghost use Rattle.channel.specs.Wires.{triggered};
-ghost use Rattle.channel.specs.Step.{servedBy, servedStore, Accepted};
-ghost use Rattle.part.specs.State.{window, putWindow, freshPart, wiped, plainPart, repliedPart, withBe, withMask, withKey, told, quiet};
-ghost use Rattle.part.specs.Registers.{pendingOf, pendingAt, activeAt, interruptOf, ctrlRead, ctrlWritten, ctrlPut, ctrlStore};
 ghost use Rattle.rules.specs.Registers.{activeOf};
-ghost use Rattle.part.specs.Step.{partIn, triggerStep, allServed, allStored, partStep, partBytes, Whole};
-ghost use Rattle.part.specs.Rows.{headAt, channelIn, channelOf, gathered, ThreeRows, Spread, Shows, Pulls, RowsAfter, oneOf, headedOf, Does, Tells, HeadsOf};
+ghost use Rattle.channel.specs.Range.{inRange};
+ghost use Rattle.part.specs.State.{freshPart, wiped, plainPart, told, quiet};
+ghost use Rattle.part.specs.Registers.{pendingOf, ctrlRead, ctrlWritten, ctrlPut, ctrlStore};
+ghost use Rattle.part.specs.Step.{partIn, triggerStep, allServed, allStored, partStep, partBytes};
+ghost use Rattle.part.specs.Rows.{Three, Holds, headsOf, headAt, channelIn, channelAt, gathered, rowsIn, rowsFound, rowsLeft, found};
+ghost use Rattle.part.specs.Rows.{Ready, Gives, Tells, Shows, Pulls, withRow, OneReady, OneGives, EdgeGives};
 use crate::map::Ctrl;
 use crate::map::Step;
 use crate::map::Target;
@@ -63,53 +62,57 @@ pub struct HeadsStepped {
     pub answer: PartAnswer,
 }
 
-// Takes the part apart: puts the tables of channel c into row c.
-pub fn spread<'a>(
-    part: Part,
+// Puts the tables of a channel into row c.
+fn put_row<'a>(
+    x: Channel,
     sla: &'a mut [[u8; 64]; 3],
     lens: &'a mut [[u8; 65]; 3],
     status: &'a mut [[u8; 64]; 3],
     counts: &'a mut [[u8; 64]; 3],
     settings: &'a mut [[u8; 6]; 3],
+    c: usize,
+)
+    requires { ⌜ c < 3 ⌝ }
+    ensures { λ _. ⌜ rowsLeft sla lens status counts settings ≡ withRow (rowsFound sla lens status counts settings) c x ⌝ }
+{
+    let slatable = x.slatable;
+    sla[c] = slatable;
+    let tranconfig = x.tranconfig;
+    lens[c] = tranconfig;
+    let statuses = x.status;
+    status[c] = statuses;
+    let bytecount = x.bytecount;
+    counts[c] = bytecount;
+    let stored = x.settings;
+    settings[c] = stored;
+}
+
+// Takes the part apart: puts the tables of each channel into its row, and gives the rest.
+pub fn spread(
+    part: Part,
+    sla: &mut [[u8; 64]; 3],
+    lens: &mut [[u8; 65]; 3],
+    status: &mut [[u8; 64]; 3],
+    counts: &mut [[u8; 64]; 3],
+    settings: &mut [[u8; 6]; 3],
 ) -> Heads
-    requires { ⌜ ThreeRows (now sla) (now lens) (now status) (now counts) (now settings) ⌝ }
-    ensures { λ r. ⌜ Spread part r (now (sla .exit)) (now (lens .exit)) (now (status .exit)) (now (counts .exit)) (now (settings .exit)) ⌝ }
+    requires { ⌜ Three (rowsIn sla lens status counts settings) ⌝ }
+    ensures { λ r. ⌜ Holds part r (rowsLeft sla lens status counts settings) ⌝ }
 {
     let channels = part.channels;
     let first = channels[0];
-    let h = first.head();
-    let mut heads = [h, h, h];
-    let mut i = 0;
-    while i < 3 {
-        let s = channels[i];
-        let head = s.head();
-        heads[i] = head;
-        let slatable = s.slatable;
-        sla[i] = slatable;
-        let tranconfig = s.tranconfig;
-        lens[i] = tranconfig;
-        let statuses = s.status;
-        status[i] = statuses;
-        let bytecount = s.bytecount;
-        counts[i] = bytecount;
-        let stored = s.settings;
-        settings[i] = stored;
-        i += 1;
-    }
-    Heads {
-        channels: heads,
-        common: Common {
-            be: part.be,
-            mask: part.mask,
-            key: part.key,
-        },
-    }
+    put_row(first, sla, lens, status, counts, settings, 0);
+    let second = channels[1];
+    put_row(second, sla, lens, status, counts, settings, 1);
+    let third = channels[2];
+    put_row(third, sla, lens, status, counts, settings, 2);
+    part.heads()
 }
 
 impl Part {
     // The part without its channels' tables.
     pub(crate) fn heads(self) -> Heads
-        ensures { λ r. ⌜ HeadsOf self r ⌝ }
+        ensures { λ r. ⌜ r ≡ headsOf self ⌝ }
     {
         let channels = self.channels;
         let first = channels[0];
@@ -137,7 +140,7 @@ impl Heads {
         c: usize,
     ) -> Channel
         requires { ⌜ c < 3 ⌝ }
-        ensures { λ r. ⌜ r ≡ channelOf self (now (sla .entry)) (now (lens .entry)) (now (status .entry)) (now (counts .entry)) (now (settings .entry)) c ⌝ }
+        ensures { λ r. ⌜ r ≡ channelAt self (rowsFound sla lens status counts settings) c ⌝ }
     {
         let h = self.channels[c];
         h.join(sla[c], lens[c], status[c], counts[c], settings[c])
@@ -152,7 +155,7 @@ impl Heads {
         counts: &'a [[u8; 64]; 3],
         settings: &'a [[u8; 6]; 3],
     ) -> Part
-        ensures { λ r. ⌜ r ≡ gathered self (now (sla .entry)) (now (lens .entry)) (now (status .entry)) (now (counts .entry)) (now (settings .entry)) ⌝ }
+        ensures { λ r. ⌜ r ≡ gathered self (rowsFound sla lens status counts settings) ⌝ }
     {
         let first = self.channel_at(sla, lens, status, counts, settings, 0);
         let second = self.channel_at(sla, lens, status, counts, settings, 1);
@@ -300,8 +303,9 @@ impl Heads {
         reg: Ctrl,
         v: u8,
     ) -> HeadsStepped
-        requires { ⌜ ThreeRows (now sla) (now lens) (now status) (now counts) (now settings) × (length (now mem) ≡ 13056) ⌝ }
-        ensures { λ r. ⌜ Does (ctrlPut (gathered self (now (sla .entry)) (now (lens .entry)) (now (status .entry)) (now (counts .entry)) (now (settings .entry))) reg v) (ctrlStore (gathered self (now (sla .entry)) (now (lens .entry)) (now (status .entry)) (now (counts .entry)) (now (settings .entry))) (now (mem .entry)) reg v) (r .heads) (r .answer) (now (sla .exit)) (now (lens .exit)) (now (status .exit)) (now (counts .exit)) (now (settings .exit)) (now (mem .exit)) ⌝ }
+        requires { ⌜ Ready self (rowsIn sla lens status counts settings) (now mem) ⌝ }
+        ensures { λ r. ⌜ Gives (ctrlPut (found self sla lens status counts settings) reg v) r (rowsLeft sla lens status counts settings)
+            × (now (mem .exit) ≡ ctrlStore (found self sla lens status counts settings) (now (mem .entry)) reg v) ⌝ }
     {
         let preset = is_ctrlpreset(reg);
         if rules::resets(preset, v, self.common.key) {
@@ -321,8 +325,8 @@ impl Heads {
         settings: &mut [[u8; 6]; 3],
         edge: Edge,
     ) -> HeadsStepped
-        requires { ⌜ ThreeRows (now sla) (now lens) (now status) (now counts) (now settings) × (partIn (gathered self (now sla) (now lens) (now status) (now counts) (now settings)) ≡ true) ⌝ }
-        ensures { λ r. ⌜ Does (triggerStep (gathered self (now (sla .entry)) (now (lens .entry)) (now (status .entry)) (now (counts .entry)) (now (settings .entry))) edge) [] (r .heads) (r .answer) (now (sla .exit)) (now (lens .exit)) (now (status .exit)) (now (counts .exit)) (now (settings .exit)) [] ⌝ }
+        requires { ⌜ Three (rowsIn sla lens status counts settings) × (partIn (gathered self (rowsIn sla lens status counts settings)) ≡ true) ⌝ }
+        ensures { λ r. ⌜ Gives (triggerStep (found self sla lens status counts settings) edge) r (rowsLeft sla lens status counts settings) ⌝ }
     {
         let a = self.channels[0];
         let x = edge_at(a, sla, lens, status, counts, settings, 0, edge);
@@ -365,8 +369,9 @@ impl Heads {
         mem: &mut [u8],
         t: Wide,
     ) -> HeadsStepped
-        requires { ⌜ ThreeRows (now sla) (now lens) (now status) (now counts) (now settings) × Whole (gathered self (now sla) (now lens) (now status) (now counts) (now settings)) (now mem) ⌝ }
-        ensures { λ r. ⌜ Does (allServed (gathered self (now (sla .entry)) (now (lens .entry)) (now (status .entry)) (now (counts .entry)) (now (settings .entry))) t) (allStored (gathered self (now (sla .entry)) (now (lens .entry)) (now (status .entry)) (now (counts .entry)) (now (settings .entry))) (now (mem .entry)) t) (r .heads) (r .answer) (now (sla .exit)) (now (lens .exit)) (now (status .exit)) (now (counts .exit)) (now (settings .exit)) (now (mem .exit)) ⌝ }
+        requires { ⌜ Ready self (rowsIn sla lens status counts settings) (now mem) ⌝ }
+        ensures { λ r. ⌜ Gives (allServed (found self sla lens status counts settings) t) r (rowsLeft sla lens status counts settings)
+            × (now (mem .exit) ≡ allStored (found self sla lens status counts settings) (now (mem .entry)) t) ⌝ }
     {
         match t {
             Wide::CtrlWrite(reg, v) => {
@@ -390,8 +395,9 @@ impl Heads {
         mem: &mut [u8],
         s: Step,
     ) -> HeadsStepped
-        requires { ⌜ ThreeRows (now sla) (now lens) (now status) (now counts) (now settings) × Whole (gathered self (now sla) (now lens) (now status) (now counts) (now settings)) (now mem) ⌝ }
-        ensures { λ r. ⌜ Does (partStep (gathered self (now (sla .entry)) (now (lens .entry)) (now (status .entry)) (now (counts .entry)) (now (settings .entry))) (now (mem .entry)) s) (partBytes (gathered self (now (sla .entry)) (now (lens .entry)) (now (status .entry)) (now (counts .entry)) (now (settings .entry))) (now (mem .entry)) s) (r .heads) (r .answer) (now (sla .exit)) (now (lens .exit)) (now (status .exit)) (now (counts .exit)) (now (settings .exit)) (now (mem .exit)) ⌝ }
+        requires { ⌜ Ready self (rowsIn sla lens status counts settings) (now mem) ⌝ }
+        ensures { λ r. ⌜ Gives (partStep (found self sla lens status counts settings) (now (mem .entry)) s) r (rowsLeft sla lens status counts settings)
+            × (now (mem .exit) ≡ partBytes (found self sla lens status counts settings) (now (mem .entry)) s) ⌝ }
     {
         let t = target_of(s);
         match t {
@@ -439,8 +445,8 @@ pub fn one(
     c: u8,
     op: Op,
 ) -> OneStepped
-    requires { ⌜ (c < 3) × ThreeRows (now sla) (now lens) (now status) (now counts) (now settings) × (length (now mem) ≡ 13056) × Accepted (channelIn h (now sla) (now lens) (now status) (now counts) (now settings) c) (window c (now mem)) ⌝ }
-    ensures { λ r. ⌜ (r ≡ oneOf k c op (servedBy (channelIn h (now (sla .entry)) (now (lens .entry)) (now (status .entry)) (now (counts .entry)) (now (settings .entry)) c) (window c (now (mem .entry))) c op)) × RowsAfter c (servedBy (channelIn h (now (sla .entry)) (now (lens .entry)) (now (status .entry)) (now (counts .entry)) (now (settings .entry)) c) (window c (now (mem .entry))) c op .channel) (now (sla .entry)) (now (lens .entry)) (now (status .entry)) (now (counts .entry)) (now (settings .entry)) (now (sla .exit)) (now (lens .exit)) (now (status .exit)) (now (counts .exit)) (now (settings .exit)) × (now (mem .exit) ≡ putWindow c (servedStore (channelIn h (now (sla .entry)) (now (lens .entry)) (now (status .entry)) (now (counts .entry)) (now (settings .entry)) c) (window c (now (mem .entry))) c op) (now (mem .entry))) ⌝ }
+    requires { ⌜ OneReady h (rowsIn sla lens status counts settings) (now mem) c ⌝ }
+    ensures { λ r. ⌜ OneGives h k (rowsFound sla lens status counts settings) (now (mem .entry)) c op r (rowsLeft sla lens status counts settings) (now (mem .exit)) ⌝ }
 {
     let i = c as usize;
     let start = 4352 * i;
@@ -484,8 +490,8 @@ fn edge_at(
     c: usize,
     edge: Edge,
 ) -> Headed
-    requires { ⌜ (c < 3) × ThreeRows (now sla) (now lens) (now status) (now counts) (now settings) × (inRange (channelIn h (now sla) (now lens) (now status) (now counts) (now settings) c) ≡ true) ⌝ }
-    ensures { λ r. ⌜ (r ≡ headedOf (triggered (channelIn h (now (sla .entry)) (now (lens .entry)) (now (status .entry)) (now (counts .entry)) (now (settings .entry)) c) edge)) × RowsAfter c (triggered (channelIn h (now (sla .entry)) (now (lens .entry)) (now (status .entry)) (now (counts .entry)) (now (settings .entry)) c) edge .channel) (now (sla .entry)) (now (lens .entry)) (now (status .entry)) (now (counts .entry)) (now (settings .entry)) (now (sla .exit)) (now (lens .exit)) (now (status .exit)) (now (counts .exit)) (now (settings .exit)) ⌝ }
+    requires { ⌜ (c < 3) × (inRange (channelIn h (rowsIn sla lens status counts settings) c) ≡ true) ⌝ }
+    ensures { λ r. ⌜ EdgeGives h (rowsFound sla lens status counts settings) c edge r (rowsLeft sla lens status counts settings) ⌝ }
 {
     h.trigger_lent(
         &mut sla[c],
@@ -519,8 +525,8 @@ fn reset(
     settings: &mut [[u8; 6]; 3],
     mem: &mut [u8],
 ) -> HeadsStepped
-    requires { ⌜ ThreeRows (now sla) (now lens) (now status) (now counts) (now settings) × (length (now mem) ≡ 13056) ⌝ }
-    ensures { λ r. ⌜ Does (plainPart freshPart) wiped (r .heads) (r .answer) (now (sla .exit)) (now (lens .exit)) (now (status .exit)) (now (counts .exit)) (now (settings .exit)) (now (mem .exit)) ⌝ }
+    requires { ⌜ Three (rowsIn sla lens status counts settings) × (length (now mem) ≡ 13056) ⌝ }
+    ensures { λ r. ⌜ Gives (plainPart freshPart) r (rowsLeft sla lens status counts settings) × (now (mem .exit) ≡ wiped) ⌝ }
 {
     rules::wipe(mem);
     spread(Part::new(), sla, lens, status, counts, settings).tell(0, 0)

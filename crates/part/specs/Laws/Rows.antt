@@ -1,10 +1,11 @@
--- A part that is taken apart is the same part, and stays it when channels' heads and rows are put anew.
+-- A part that is taken apart and put together is the same part, and stays it where a channel's head and row are put anew.
 use Prim.Native.Nat.{ℕ, zero, suc, _<_}
+use mathlib.Core.Bool.{true}
 use mathlib.Core.List.{List, [], _∷_, map}
 use mathlib.Core.Path.{_≡_, refl, sym, _∙_, ap, subst}
-use native.Mathlib.Nat.{not-suc-le-zero, le-of-suc-le-suc}
 use native.Mathlib.Omega.{arith}
 use lib.ListN.{length, getD, set, length-map, length-set}
+use lib.Seq.{getD-set-other, getD-set-same}
 use Rattle.sequence.specs.declared.wires.Edge.{Edge}
 use Rattle.channel.specs.declared.state.Channel.{Channel}
 use Rattle.channel.specs.declared.state.Head.{Head}
@@ -13,13 +14,13 @@ use Rattle.channel.specs.declared.state.Stepped.{Stepped}
 use Rattle.channel.specs.declared.step.Op.{Op}
 use Rattle.channel.specs.Head.{rejoined, headOf}
 use Rattle.channel.specs.Step.{servedBy, servedStore, Accepted}
+use Rattle.channel.specs.Range.{inRange}
 use Rattle.channel.specs.Wires.{triggered}
 use Rattle.part.specs.declared.rows.Common.{Common}
 use Rattle.part.specs.declared.rows.Heads.{Heads}
 use Rattle.part.specs.declared.rows.HeadsStepped.{HeadsStepped}
 use Rattle.part.specs.declared.rows.OneStepped.{OneStepped}
 use Rattle.part.specs.declared.state.Part.{Part}
-use Rattle.part.specs.declared.state.PartAnswer.{PartAnswer}
 use Rattle.part.specs.declared.state.PartStepped.{PartStepped}
 use Rattle.part.specs.declared.map.Step.{Step}
 use Rattle.part.specs.declared.map.Target.{Target}
@@ -27,11 +28,49 @@ use Rattle.part.specs.declared.map.Target.the-variants.{One, All}
 use Rattle.part.specs.declared.map.Wide.{Wide}
 use Rattle.part.specs.Map.{targetOf}
 use Rattle.part.specs.State.{blank, chan, window, putWindow}
-use lib.Seq.{getD-set-other}
-use Rattle.part.specs.Step.{beAfter, triggerStep, commonAfter, commonOf, answerAt, oneAfter, oneTold, oneStep, oneBytes, allServed, allStored, partServed, partStored, partStep, partBytes, Whole}
+use Rattle.part.specs.Step.{
+  beAfter,
+  triggerStep,
+  commonAfter,
+  commonOf,
+  answerAt,
+  oneAfter,
+  oneStep,
+  oneBytes,
+  allServed,
+  allStored,
+  partServed,
+  partStored,
+  partIn,
+  partStep,
+  partBytes,
+  Whole,
+}
 use Rattle.part.specs.Laws.Kept.{chan-accepted}
-use Rattle.part.specs.Laws.Range.{whole-accepts, step-accepted, bytes-accepted}
-use Rattle.part.specs.Rows.{headAt, channelIn, channelOf, gathered, ThreeRows, Spread, RowsAfter, oneOf, storedHead, headedOf, Does, Tells}
+use Rattle.part.specs.Laws.Range.{chan-in-range, whole-accepts, step-accepted, bytes-accepted}
+use Rattle.part.specs.Rows.{
+  Rows,
+  Three,
+  headsOf,
+  tablesOf,
+  rowsOf,
+  Holds,
+  headAt,
+  channelIn,
+  channelAt,
+  gathered,
+  Ready,
+  Gives,
+  givenIn,
+  Tells,
+  withRow,
+  OneReady,
+  servedIn,
+  oneOf,
+  OneGives,
+  oneStored,
+  EdgeGives,
+}
 
 -- ---- lists
 map-set : {A B : Type 0} (f : A → B) (l : List A) (i : ℕ) (x : A) → set (map f l) i (f x) ≡ map f (set l i x)
@@ -39,10 +78,10 @@ map-set f [] i x = refl
 map-set f (y ∷ l) zero x = refl
 map-set {A} {B} f (y ∷ l) (suc i) x = ap (λ (t : List B). f y ∷ t) (map-set f l i x)
 
-map-at : {A B : Type 0} (f : A → B) (l : List A) (i : ℕ) (d : A) (e : B) → i < length l → getD (map f l) i e ≡ f (getD l i d)
-map-at f [] i d e h = absurd (not-suc-le-zero h)
-map-at f (x ∷ l) zero d e h = refl
-map-at f (x ∷ l) (suc i) d e h = map-at f l i d e (le-of-suc-le-suc h)
+map-at : {A B : Type 0} (f : A → B) (l : List A) (i : ℕ) (d : A) → getD (map f l) i (f d) ≡ f (getD l i d)
+map-at f [] i d = refl
+map-at f (x ∷ l) zero d = refl
+map-at f (x ∷ l) (suc i) d = map-at f l i d
 
 pub three-of : {A : Type 0} (d : A) (l : List A) → length l ≡ 3 → (getD l 0 d ∷ getD l 1 d ∷ getD l 2 d ∷ []) ≡ l
 three-of d [] h = absurd (let k : 0 ≡ 3 = h in omega (arith, k))
@@ -51,249 +90,275 @@ three-of d (a ∷ b ∷ []) h = absurd (let k : 2 ≡ 3 = h in omega (arith, k))
 three-of d (a ∷ b ∷ c ∷ []) h = refl
 three-of d (a ∷ b ∷ c ∷ e ∷ l) h = absurd (let k : length (a ∷ b ∷ c ∷ e ∷ l) ≡ 3 = h in omega (arith, k))
 
--- ---- the part of three heads and three rows of each is spread in them
-pub spread-gathered : (h : Heads) (sla lens s k set′ : List (List ℕ)) → length (h .channels) ≡ 3 → ThreeRows sla lens s k set′
-    → Spread (gathered h sla lens s k set′) h sla lens s k set′
-spread-gathered h sla lens s k set′ n w =
+-- ---- taken apart, and put together
+module _ (p : Part) where
+  at-apart : (c : ℕ) → channelAt (headsOf p) (rowsOf p) c ≡ chan p c
+  at-apart c =
+      let l = p .channels in
+      rw (
+        map-at headOf l c blank,
+        map-at (λ (x : Channel). x .slatable) l c blank,
+        map-at (λ (x : Channel). x .tranconfig) l c blank,
+        map-at (λ (x : Channel). x .status) l c blank,
+        map-at (λ (x : Channel). x .bytecount) l c blank,
+        map-at (λ (x : Channel). x .settings) l c blank,
+      )
+
+  pub gathered-apart : length (p .channels) ≡ 3 → gathered (headsOf p) (rowsOf p) ≡ p
+  gathered-apart three = rw (at-apart 0, at-apart 1, at-apart 2, three-of blank (p .channels) three)
+
+  three-rows : length (p .channels) ≡ 3 → Three (rowsOf p)
+  three-rows three =
+      record {
+        slas = length-map (p .channels) (λ (x : Channel). x .slatable) ∙ three;
+        lengths = length-map (p .channels) (λ (x : Channel). x .tranconfig) ∙ three;
+        statuses = length-map (p .channels) (λ (x : Channel). x .status) ∙ three;
+        counts = length-map (p .channels) (λ (x : Channel). x .bytecount) ∙ three;
+        stored = length-map (p .channels) (λ (x : Channel). x .settings) ∙ three;
+      }
+
+pub apart-gathered : (h : Heads) (t : Rows) → length (h .channels) ≡ 3 → Three t → Holds (gathered h t) h t
+apart-gathered h t n w =
+    let heads = sym (three-of (headOf blank) (h .channels) n) in
+    let slas = sym (three-of [] (t .slas) (w .slas)) in
+    let lengths = sym (three-of [] (t .lengths) (w .lengths)) in
+    let statuses = sym (three-of [] (t .statuses) (w .statuses)) in
+    let counts = sym (three-of [] (t .counts) (w .counts)) in
+    let stored = sym (three-of [] (t .stored) (w .stored)) in
     record {
-      heads = sym (three-of (headOf blank) (h .channels) n);
-      slas = sym (three-of [] sla (w .slas));
-      lengths = sym (three-of [] lens (w .lengths));
-      statuses = sym (three-of [] s (w .statuses));
-      counts = sym (three-of [] k (w .counts));
-      stored = sym (three-of [] set′ (w .stored));
-      be = refl;
-      mask = refl;
-      key = refl;
+      heads = λ i. record { channels = heads i; common = h .common };
+      rows = λ i. record { slas = slas i; lengths = lengths i; statuses = statuses i; counts = counts i; stored = stored i };
       three = refl;
     }
 
-module _ (p : Part) (h : Heads) (sla lens s k set′ : List (List ℕ)) (w : Spread p h sla lens s k set′) where
-  -- ---- channel c
-  pub spread-at : (c : ℕ) → c < 3 → channelOf h sla lens s k set′ c ≡ chan p c
-  spread-at c q =
-      let l = p .channels in
-      let i : c < length l = omega (arith, w .three, q) in
-      rw (
-        w .heads,
-        w .slas,
-        w .lengths,
-        w .statuses,
-        w .counts,
-        w .stored,
-        map-at headOf l c blank (headOf blank) i,
-        map-at (λ (x : Channel). x .slatable) l c blank [] i,
-        map-at (λ (x : Channel). x .tranconfig) l c blank [] i,
-        map-at (λ (x : Channel). x .status) l c blank [] i,
-        map-at (λ (x : Channel). x .bytecount) l c blank [] i,
-        map-at (λ (x : Channel). x .settings) l c blank [] i,
-      )
+module _ (p : Part) (h : Heads) (t : Rows) (w : Holds p h t) where
+  pub holds-at : (c : ℕ) → channelAt h t c ≡ chan p c
+  holds-at c = rw (w .heads, w .rows) (at-apart p c)
 
-  pub spread-rows : ThreeRows sla lens s k set′
-  spread-rows =
+  pub holds-part : gathered h t ≡ p
+  holds-part = rw (w .heads, w .rows) (gathered-apart p (w .three))
+
+  pub holds-rows : Three t
+  holds-rows = subst Three (sym (w .rows)) (three-rows p (w .three))
+
+  pub holds-ready : (m : List ℕ) → Whole p m → Ready h t m
+  holds-ready m v =
       record {
-        slas = rw (w .slas, length-map (p .channels) (λ (c : Channel). c .slatable)) (w .three);
-        lengths = rw (w .lengths, length-map (p .channels) (λ (c : Channel). c .tranconfig)) (w .three);
-        statuses = rw (w .statuses, length-map (p .channels) (λ (c : Channel). c .status)) (w .three);
-        counts = rw (w .counts, length-map (p .channels) (λ (c : Channel). c .bytecount)) (w .three);
-        stored = rw (w .stored, length-map (p .channels) (λ (c : Channel). c .settings)) (w .three);
+        heads = ap (λ (x : Heads). length (x .channels)) (w .heads) ∙ length-map (p .channels) headOf ∙ w .three;
+        rows = holds-rows;
+        whole = subst (λ (x : Part). Whole x m) (sym holds-part) v;
       }
 
-  -- ---- put together it is the part
-  pub gathered-spread : gathered h sla lens s k set′ ≡ p
-  gathered-spread =
-      rw (spread-at 0 (omega arith), spread-at 1 (omega arith), spread-at 2 (omega arith), three-of blank (p .channels) (w .three), w .be, w .mask, w .key)
+  pub holds-one-ready : (m : List ℕ) → Whole p m → (c : ℕ) → c < 3 → OneReady (headAt h c) t m c
+  holds-one-ready m v c q = record { below = q; memory = v .whole; accepted = rw (holds-at c) (chan-accepted p m c q v) }
 
-  common-of : h .common ≡ commonOf p
-  common-of = rw (← w .be, ← w .mask, ← w .key)
+-- heads and rows for which no. 9 refuses nothing hold their part
+pub ready-holds : (h : Heads) (t : Rows) (m : List ℕ) → Ready h t m → Holds (gathered h t) h t
+ready-holds h t m w = apart-gathered h t (w .heads) (w .rows)
 
-  -- ---- one channel anew: its record x, in its head and its rows
-  module _ (c : ℕ) (x : Channel) (t : Common) (sla₁ lens₁ s₁ k₁ set₁ : List (List ℕ)) (v : RowsAfter c x sla lens s k set′ sla₁ lens₁ s₁ k₁ set₁) where
-    pub spread-one : Spread (oneAfter p c x t) (record { channels = set (h .channels) c (headOf x); common = t }) sla₁ lens₁ s₁ k₁ set₁
-    spread-one =
-        let l = p .channels in
-        record {
-          heads = ap (λ (y : List Head). set y c (headOf x)) (w .heads) ∙ map-set headOf l c x;
-          slas = v .slas ∙ ap (λ (y : List (List ℕ)). set y c (x .slatable)) (w .slas) ∙ map-set (λ (y : Channel). y .slatable) l c x;
-          lengths = v .lengths ∙ ap (λ (y : List (List ℕ)). set y c (x .tranconfig)) (w .lengths) ∙ map-set (λ (y : Channel). y .tranconfig) l c x;
-          statuses = v .statuses ∙ ap (λ (y : List (List ℕ)). set y c (x .status)) (w .statuses) ∙ map-set (λ (y : Channel). y .status) l c x;
-          counts = v .counts ∙ ap (λ (y : List (List ℕ)). set y c (x .bytecount)) (w .counts) ∙ map-set (λ (y : Channel). y .bytecount) l c x;
-          stored = v .stored ∙ ap (λ (y : List (List ℕ)). set y c (x .settings)) (w .stored) ∙ map-set (λ (y : Channel). y .settings) l c x;
-          be = refl;
-          mask = refl;
-          key = refl;
-          three = length-set l c x ∙ w .three;
-        }
+-- ---- what heads and rows give is the part's
+pub gives-step : (q : PartStepped) (r : HeadsStepped) (t : Rows) → Gives q r t → givenIn r t ≡ q
+gives-step q r t w = rw (holds-part (q .part) (r .heads) t (w .holds), w .answer)
 
-  -- ---- A STEP OF ONE CHANNEL in its rows is the part's
-  module _ (m : List ℕ) (c : ℕ) (op : Op) (r : OneStepped) (sla₁ lens₁ s₁ k₁ set₁ : List (List ℕ)) (n : List ℕ) (q : c < 3) where
-    it : Stepped
-    it = servedBy (channelOf h sla lens s k set′ c) (window c m) c op
-
-    told-it : oneStep p m c op ≡ oneTold p c op it
-    unfolding oneStep it
-    told-it = ap (λ (y : Channel). oneTold p c op (servedBy y (window c m) c op)) (sym (spread-at c q))
-
-    kept-it : putWindow c (servedStore (channelOf h sla lens s k set′ c) (window c m) c op) m ≡ oneBytes p m c op
-    unfolding oneBytes
-    kept-it = ap (λ (y : Channel). putWindow c (servedStore y (window c m) c op) m) (spread-at c q)
-
-    told-answer : r ≡ oneOf (h .common) c op it → r .answer ≡ oneTold p c op it .answer
-    told-answer e = ap (λ (y : OneStepped). y .answer) e
-
-    told-spread : r ≡ oneOf (h .common) c op it → RowsAfter c (it .channel) sla lens s k set′ sla₁ lens₁ s₁ k₁ set₁
-        → Spread (oneTold p c op it .part) (storedHead h c r) sla₁ lens₁ s₁ k₁ set₁
-    unfolding it
-    told-spread e v =
-        rw e
-        (subst
-        (λ (t : Common). Spread (oneAfter p c (it .channel) (commonAfter t op (it .answer)))
-        (record { channels = set (h .channels) c (headOf (it .channel)); common = commonAfter (h .common) op (it .answer) }) sla₁ lens₁ s₁ k₁ set₁)
-        common-of
-        (spread-one c (it .channel) (commonAfter (h .common) op (it .answer)) sla₁ lens₁ s₁ k₁ set₁ v))
-
-    pub one-does : r ≡ oneOf (h .common) c op (servedBy (channelOf h sla lens s k set′ c) (window c m) c op)
-        → RowsAfter c (servedBy (channelOf h sla lens s k set′ c) (window c m) c op .channel) sla lens s k set′ sla₁ lens₁ s₁ k₁ set₁
-        → n ≡ putWindow c (servedStore (channelOf h sla lens s k set′ c) (window c m) c op) m
-        → Does (oneStep p m c op) (oneBytes p m c op) (storedHead h c r) (r .answer) sla₁ lens₁ s₁ k₁ set₁ n
-    unfolding it
-    one-does e v b =
-        record {
-          spread = rw told-it (told-spread e v);
-          answer = rw told-it (told-answer e);
-          memory = b ∙ kept-it;
-        }
-
--- ---- what a step over lent tables gives: the channel x is what it gave back and the tables that it left
-module _ (x : Stepped) (r : Headed) (a b d e f : List ℕ) (q : rejoined r a b d e f ≡ x) where
-  pub one-gives : (k : Common) (c : ℕ) (op : Op) → record { head = r .head; common = commonAfter k op (r .answer); answer = answerAt c (r .answer) } ≡ oneOf k c op x
-  one-gives k c op = ap (oneOf k c op) q
-
-  pub rows-after : (c : ℕ) (sla lens s k set′ : List (List ℕ)) → RowsAfter c (x .channel) sla lens s k set′ (set sla c a) (set lens c b) (set s c d) (set k c e) (set set′ c f)
-  rows-after c sla lens s k set′ =
-      record {
-        slas = ap (λ (y : Stepped). set sla c (y .channel .slatable)) q;
-        lengths = ap (λ (y : Stepped). set lens c (y .channel .tranconfig)) q;
-        statuses = ap (λ (y : Stepped). set s c (y .channel .status)) q;
-        counts = ap (λ (y : Stepped). set k c (y .channel .bytecount)) q;
-        stored = ap (λ (y : Stepped). set set′ c (y .channel .settings)) q;
-      }
-
-  pub headed-gives : record { head = r .head; answer = r .answer } ≡ headedOf x
-  headed-gives = ap headedOf q
-
--- ---- the part's registers answer, and the rows stay
-pub tells-does : (f : Part → PartStepped) (h : Heads) (r : HeadsStepped) (sla lens s k set′ : List (List ℕ)) (m : List ℕ) → length (h .channels) ≡ 3
-    → ThreeRows sla lens s k set′ → Tells f h r → Does (f (gathered h sla lens s k set′)) m (r .heads) (r .answer) sla lens s k set′ m
-tells-does f h r sla lens s k set′ m n w t =
-    let e = t .1 sla lens s k set′ in
+-- ---- no table is looked at
+pub tells-gives : (f : Part → PartStepped) (h : Heads) (r : HeadsStepped) (t : Rows) → length (h .channels) ≡ 3 → Three t → Tells f h r
+    → Gives (f (gathered h t)) r t
+tells-gives f h r t n v w =
+    let e = w .1 t in
     record {
-      spread = rw (← e) (spread-gathered (r .heads) sla lens s k set′ (ap length (t .0) ∙ n) w);
+      holds = rw (← e) (apart-gathered (r .heads) t (ap length (w .0) ∙ n) v);
       answer = ap (λ (x : PartStepped). x .answer) e;
-      memory = refl;
     }
 
--- ---- rows that hold what a step gives, put together
-pub does-step : (q : PartStepped) (n : List ℕ) (h : Heads) (a : PartAnswer) (sla lens s k set′ : List (List ℕ)) (m : List ℕ)
-    → Does q n h a sla lens s k set′ m → record { part = gathered h sla lens s k set′; answer = a } ≡ q
-does-step q n h a sla lens s k set′ m d = rw (gathered-spread (q .part) h sla lens s k set′ (d .spread), d .answer)
+-- ---- ONE CHANNEL ANEW: its record x, in its head and its row
+module _ (p : Part) (c : ℕ) (x : Channel) (k : Common) where
+  put-holds : length (p .channels) ≡ 3
+      → Holds (oneAfter p c x k) (record { channels = set (headsOf p .channels) c (headOf x); common = k }) (withRow (rowsOf p) c x)
+  put-holds three =
+      let l = p .channels in
+      record {
+        heads = rw (map-set headOf l c x);
+        rows =
+            rw (
+              map-set (λ (y : Channel). y .slatable) l c x,
+              map-set (λ (y : Channel). y .tranconfig) l c x,
+              map-set (λ (y : Channel). y .status) l c x,
+              map-set (λ (y : Channel). y .bytecount) l c x,
+              map-set (λ (y : Channel). y .settings) l c x,
+            );
+        three = length-set l c x ∙ three;
+      }
 
--- ---- A STEP in three heads and three rows of each, by whom it concerns
-module _ (h : Heads) (sla lens s k set′ : List (List ℕ)) (m : List ℕ) (three : length (h .channels) ≡ 3) (v : ThreeRows sla lens s k set′)
-    (w : Whole (gathered h sla lens s k set′) m) where
-  whole-part : Part
-  whole-part = gathered h sla lens s k set′
+module _ (p : Part) (h : Heads) (t : Rows) (w : Holds p h t) (m : List ℕ) (c : ℕ) (op : Op) (r : OneStepped) (t′ : Rows) (m′ : List ℕ) where
+  -- what channel c answers in heads and rows, and in the part
+  served : Stepped
+  served = servedBy (chan p c) (window c m) c op
 
-  pub one-ready : (c : ℕ) → c < 3 → Accepted (channelIn (headAt h c) sla lens s k set′ c) (window c m)
-  one-ready c q =
-      rw (spread-at (gathered h sla lens s k set′) h sla lens s k set′ (spread-gathered h sla lens s k set′ three v) c q) (chan-accepted (gathered h sla lens s k set′) m c q w)
+  same-served : servedIn (headAt h c) t m c op ≡ served
+  unfolding served
+  same-served = ap (λ (y : Channel). servedBy y (window c m) c op) (holds-at p h t w c)
 
-  module _ (x : Step) (h₁ : Heads) (a : PartAnswer) (sla₁ lens₁ s₁ k₁ set₁ : List (List ℕ)) (n : List ℕ) where
-    by-target : (t : Target) → targetOf x ≡ t
-        → Does (partServed whole-part m t) (partStored whole-part m t) h₁ a sla₁ lens₁ s₁ k₁ set₁ n
-        → Does (partStep (gathered h sla lens s k set′) m x) (partBytes (gathered h sla lens s k set′) m x) h₁ a sla₁ lens₁ s₁ k₁ set₁ n
-    unfolding whole-part
-    by-target t e d =
-        let y = whole-accepts (gathered h sla lens s k set′) m w in
-        rw (step-accepted (gathered h sla lens s k set′) m x y, bytes-accepted (gathered h sla lens s k set′) m x y, e) d
+  one-bytes : OneGives (headAt h c) (h .common) t m c op r t′ m′ → m′ ≡ oneBytes p m c op
+  unfolding oneBytes
+  one-bytes d = d .memory ∙ ap (λ (y : Channel). putWindow c (servedStore y (window c m) c op) m) (holds-at p h t w c)
 
-    pub step-all : (t : Wide) → targetOf x ≡ All t
-        → Does (allServed (gathered h sla lens s k set′) t) (allStored (gathered h sla lens s k set′) m t) h₁ a sla₁ lens₁ s₁ k₁ set₁ n
-        → Does (partStep (gathered h sla lens s k set′) m x) (partBytes (gathered h sla lens s k set′) m x) h₁ a sla₁ lens₁ s₁ k₁ set₁ n
-    unfolding partServed partStored whole-part
-    step-all t e d = by-target (All t) e d
+  -- A STEP OF ONE CHANNEL in its head and its row is the part's
+  pub one-gives : OneGives (headAt h c) (h .common) t m c op r t′ m′ → Gives (oneStep p m c op) (oneStored h c r) t′ × (m′ ≡ oneBytes p m c op)
+  unfolding oneStep served
+  one-gives d =
+      let e = d .given ∙ ap (oneOf (h .common) c op) same-served in
+      let k = commonAfter (h .common) op (served .answer) in (
+        record {
+          holds =
+              rw (e, d .rows, same-served, w .heads, w .rows) (put-holds p c (served .channel) (commonAfter (commonOf p) op (served .answer)) (w .three));
+          answer = ap (λ (y : OneStepped). y .answer) e;
+        },
+        one-bytes d,
+      )
 
-  module _ (x : Step) (c : ℕ) (op : Op) (r : OneStepped) (sla₁ lens₁ s₁ k₁ set₁ : List (List ℕ)) (n : List ℕ) (q : c < 3) (e : targetOf x ≡ One op c) where
-    pub step-one : r ≡ oneOf (h .common) c op (servedBy (channelOf h sla lens s k set′ c) (window c m) c op)
-        → RowsAfter c (servedBy (channelOf h sla lens s k set′ c) (window c m) c op .channel) sla lens s k set′ sla₁ lens₁ s₁ k₁ set₁
-        → n ≡ putWindow c (servedStore (channelOf h sla lens s k set′ c) (window c m) c op) m
-        → Does (partStep (gathered h sla lens s k set′) m x) (partBytes (gathered h sla lens s k set′) m x) (storedHead h c r) (r .answer) sla₁ lens₁ s₁ k₁ set₁ n
-    unfolding partServed partStored whole-part
-    step-one u y z =
-        by-target x (storedHead h c r) (r .answer) sla₁ lens₁ s₁ k₁ set₁ n (One op c) e
-        (one-does (gathered h sla lens s k set′) h sla lens s k set′ (spread-gathered h sla lens s k set′ three v) m c op r sla₁ lens₁ s₁ k₁ set₁ n q u y z)
+-- ---- what a step over lent tables gives: the channel x is what it gave back and the tables that it left
+abbrev headedOf : Stepped → Headed
+headedOf x = record { head = headOf (x .channel); answer = x .answer }
 
--- ---- A TRIGGER EDGE in the rows, channel by channel
+module _ (x : Stepped) (r : Headed) (a b d e f : List ℕ) (q : rejoined r a b d e f ≡ x) where
+  pub lent-gives : (k : Common) (c : ℕ) (op : Op) → record { head = r .head; common = commonAfter k op (r .answer); answer = answerAt c (r .answer) } ≡ oneOf k c op x
+  lent-gives k c op = ap (oneOf k c op) q
+
+  pub lent-headed : record { head = r .head; answer = r .answer } ≡ headedOf x
+  lent-headed = ap headedOf q
+
+  pub lent-row : (c : ℕ) (t : Rows)
+      → record { slas = set (t .slas) c a; lengths = set (t .lengths) c b; statuses = set (t .statuses) c d; counts = set (t .counts) c e; stored = set (t .stored) c f }
+      ≡ withRow t c (x .channel)
+  lent-row c t = ap (λ (y : Stepped). withRow t c (y .channel)) q
+
+-- ---- A STEP, by whom it concerns
+module _ (p : Part) (m : List ℕ) (w : Whole p m) (s : Step) (r : HeadsStepped) (t : Rows) (n : List ℕ) where
+  by-target : (x : Target) → targetOf s ≡ x → Gives (partServed p m x) r t × (n ≡ partStored p m x) → Gives (partStep p m s) r t × (n ≡ partBytes p m s)
+  by-target x e d = let y = whole-accepts p m w in rw (step-accepted p m s y, bytes-accepted p m s y, e) d
+
+  pub step-one : (c : ℕ) (op : Op) → targetOf s ≡ One op c → Gives (oneStep p m c op) r t × (n ≡ oneBytes p m c op)
+      → Gives (partStep p m s) r t × (n ≡ partBytes p m s)
+  unfolding partServed partStored
+  step-one c op e d = by-target (One op c) e d
+
+  pub step-all : (x : Wide) → targetOf s ≡ All x → Gives (allServed p x) r t × (n ≡ allStored p m x) → Gives (partStep p m s) r t × (n ≡ partBytes p m s)
+  unfolding partServed partStored
+  step-all x e d = by-target (All x) e d
+
+-- ---- rows put one by one
+module _ (t : Rows) (c : ℕ) (x : Channel) where
+  pub other-row : (g : Head) (j : ℕ) → (j ≡ c → ⊥) → channelIn g (withRow t c x) j ≡ channelIn g t j
+  other-row g j n =
+      rw (
+        getD-set-other (t .slas) c j (x .slatable) [] n,
+        getD-set-other (t .lengths) c j (x .tranconfig) [] n,
+        getD-set-other (t .statuses) c j (x .status) [] n,
+        getD-set-other (t .counts) c j (x .bytecount) [] n,
+        getD-set-other (t .stored) c j (x .settings) [] n,
+      )
+
 set-three : {A : Type 0} (l : List A) (a b d : A) → length l ≡ 3 → set (set (set l 0 a) 1 b) 2 d ≡ (a ∷ b ∷ d ∷ [])
 set-three l a b d n = rw (← three-of a l n)
 
-module _ (c : ℕ) (x : Channel) (sla lens s k set′ sla₁ lens₁ s₁ k₁ set₁ : List (List ℕ)) (v : RowsAfter c x sla lens s k set′ sla₁ lens₁ s₁ k₁ set₁) where
-  pub rows-other : (g : Head) (j : ℕ) → (j ≡ c → ⊥) → channelIn g sla₁ lens₁ s₁ k₁ set₁ j ≡ channelIn g sla lens s k set′ j
-  rows-other g j n =
+-- all three
+pub all-rows : (t : Rows) (a b d : Channel) → Three t → withRow (withRow (withRow t 0 a) 1 b) 2 d ≡ tablesOf (a ∷ b ∷ d ∷ [])
+all-rows t a b d w =
+    rw (
+      set-three (t .slas) (a .slatable) (b .slatable) (d .slatable) (w .slas),
+      set-three (t .lengths) (a .tranconfig) (b .tranconfig) (d .tranconfig) (w .lengths),
+      set-three (t .statuses) (a .status) (b .status) (d .status) (w .statuses),
+      set-three (t .counts) (a .bytecount) (b .bytecount) (d .bytecount) (w .counts),
+      set-three (t .stored) (a .settings) (b .settings) (d .settings) (w .stored),
+    )
+
+-- the part's own three
+pub spread-holds : (p : Part) (h : Heads) (t t′ : Rows) → length (p .channels) ≡ 3 → Three t → h ≡ headsOf p
+    → t′ ≡ withRow (withRow (withRow t 0 (chan p 0)) 1 (chan p 1)) 2 (chan p 2) → Holds p h t′
+spread-holds p h t t′ three w e f =
+    record { heads = e; rows = f ∙ all-rows t (chan p 0) (chan p 1) (chan p 2) w ∙ ap tablesOf (three-of blank (p .channels) three); three = three }
+
+-- ---- A TRIGGER EDGE in heads and rows, channel by channel
+
+-- a channel's row is not touched by the others' edges, so each channel is still in range when its turn comes
+module _ (h : Heads) (t : Rows) (edge : Edge) (w : partIn (gathered h t) ≡ true) where
+  pub second-in-range : (a : Headed) (t₁ : Rows) → EdgeGives (headAt h 0) t 0 edge a t₁ → inRange (channelIn (headAt h 1) t₁ 1) ≡ true
+  second-in-range a t₁ x =
+      rw (x .rows, other-row t 0 (triggered (channelAt h t 0) edge .channel) (headAt h 1) 1 (λ e. omega (arith, e))) (chan-in-range (gathered h t) 1 w)
+
+  pub third-in-range : (a b : Headed) (t₁ t₂ : Rows) → EdgeGives (headAt h 0) t 0 edge a t₁ → EdgeGives (headAt h 1) t₁ 1 edge b t₂
+      → inRange (channelIn (headAt h 2) t₂ 2) ≡ true
+  third-in-range a b t₁ t₂ x y =
       rw (
-        v .slas,
-        v .lengths,
-        v .statuses,
-        v .counts,
-        v .stored,
-        getD-set-other sla c j (x .slatable) [] n,
-        getD-set-other lens c j (x .tranconfig) [] n,
-        getD-set-other s c j (x .status) [] n,
-        getD-set-other k c j (x .bytecount) [] n,
-        getD-set-other set′ c j (x .settings) [] n,
+        y .rows,
+        other-row t₁ 1 (triggered (channelIn (headAt h 1) t₁ 1) edge .channel) (headAt h 2) 2 (λ e. omega (arith, e)),
+        x .rows,
+        other-row t 0 (triggered (channelAt h t 0) edge .channel) (headAt h 2) 2 (λ e. omega (arith, e)),
       )
+      (chan-in-range (gathered h t) 2 w)
 
-  pub rows-three : ThreeRows sla lens s k set′ → ThreeRows sla₁ lens₁ s₁ k₁ set₁
-  rows-three w =
-      record {
-        slas = ap length (v .slas) ∙ length-set sla c (x .slatable) ∙ w .slas;
-        lengths = ap length (v .lengths) ∙ length-set lens c (x .tranconfig) ∙ w .lengths;
-        statuses = ap length (v .statuses) ∙ length-set s c (x .status) ∙ w .statuses;
-        counts = ap length (v .counts) ∙ length-set k c (x .bytecount) ∙ w .counts;
-        stored = ap length (v .stored) ∙ length-set set′ c (x .settings) ∙ w .stored;
-      }
+-- what is given back where the channels answered a, b and d
+abbrev pub edgesStored : Heads → Headed → Headed → Headed → HeadsStepped
+edgesStored h a b d = record {
+  heads = record {
+    channels = a .head ∷ b .head ∷ d .head ∷ [];
+    common = record {
+      be = beAfter (beAfter (beAfter (h .common .be) (a .answer .number)) (b .answer .number)) (d .answer .number);
+      mask = h .common .mask;
+      key = h .common .key;
+    };
+  };
+  answer = record {
+    number = 0;
+    value = 0;
+    actions = record { action = a .answer .action } ∷ record { action = b .answer .action } ∷ record { action = d .answer .action } ∷ [];
+  };
+}
 
-module _ (h : Heads) (edge : Edge) (sla lens s k set′ sla₁ lens₁ s₁ k₁ set₁ sla₂ lens₂ s₂ k₂ set₂ sla₃ lens₃ s₃ k₃ set₃ : List (List ℕ)) (w : ThreeRows sla lens s k set′) where
-  pub edge-does : (x y z : Stepped) → x ≡ triggered (channelOf h sla lens s k set′ 0) edge → y ≡ triggered (channelOf h sla lens s k set′ 1) edge → z ≡ triggered (channelOf h sla lens s k set′ 2) edge
-      → RowsAfter 0 (x .channel) sla lens s k set′ sla₁ lens₁ s₁ k₁ set₁ → RowsAfter 1 (y .channel) sla₁ lens₁ s₁ k₁ set₁ sla₂ lens₂ s₂ k₂ set₂
-      → RowsAfter 2 (z .channel) sla₂ lens₂ s₂ k₂ set₂ sla₃ lens₃ s₃ k₃ set₃
-      → Does (triggerStep (gathered h sla lens s k set′) edge) []
-      (record {
-        channels = headOf (x .channel) ∷ headOf (y .channel) ∷ headOf (z .channel) ∷ [];
-        common = record {
-          be = beAfter (beAfter (beAfter (h .common .be) (x .answer .number)) (y .answer .number)) (z .answer .number);
-          mask = h .common .mask;
-          key = h .common .key;
-        };
-      })
-      (record { number = 0; value = 0; actions = record { action = x .answer .action } ∷ record { action = y .answer .action } ∷ record { action = z .answer .action } ∷ [] })
-      sla₃ lens₃ s₃ k₃ set₃ []
+module _ (h : Heads) (t : Rows) (edge : Edge) (three : Three t) where
+  -- what channel c answers, as it stood before the edge
+  abbrev edged : ℕ → Stepped
+  edged c = triggered (channelAt h t c) edge
+
+  -- the rows after the first, the second and the third of them
+  abbrev one : Rows
+  one = withRow t 0 (edged 0 .channel)
+
+  abbrev two : Rows
+  two = withRow one 1 (edged 1 .channel)
+
+  abbrev all : Rows
+  all = withRow two 2 (edged 2 .channel)
+
+  same-second : triggered (channelIn (headAt h 1) one 1) edge ≡ edged 1
+  same-second = ap (λ (x : Channel). triggered x edge) (other-row t 0 (edged 0 .channel) (headAt h 1) 1 (λ e. omega (arith, e)))
+
+  same-third : triggered (channelIn (headAt h 2) two 2) edge ≡ edged 2
+  same-third =
+      ap (λ (x : Channel). triggered x edge)
+      (other-row one 1 (edged 1 .channel) (headAt h 2) 2 (λ e. omega (arith, e))
+      ∙ other-row t 0 (edged 0 .channel) (headAt h 2) 2 (λ e. omega (arith, e)))
+
+  edges-all : Gives (triggerStep (gathered h t) edge) (edgesStored h (headedOf (edged 0)) (headedOf (edged 1)) (headedOf (edged 2))) all
   unfolding triggerStep
-  edge-does x y z ex ey ez a b d =
+  edges-all =
       record {
-        spread =
+        holds =
             record {
-              heads = rw (ex, ey, ez);
-              slas = rw (d .slas, b .slas, a .slas, set-three sla (x .channel .slatable) (y .channel .slatable) (z .channel .slatable) (w .slas), ex, ey, ez);
-              lengths = rw (d .lengths, b .lengths, a .lengths, set-three lens (x .channel .tranconfig) (y .channel .tranconfig) (z .channel .tranconfig) (w .lengths), ex, ey, ez);
-              statuses = rw (d .statuses, b .statuses, a .statuses, set-three s (x .channel .status) (y .channel .status) (z .channel .status) (w .statuses), ex, ey, ez);
-              counts = rw (d .counts, b .counts, a .counts, set-three k (x .channel .bytecount) (y .channel .bytecount) (z .channel .bytecount) (w .counts), ex, ey, ez);
-              stored = rw (d .stored, b .stored, a .stored, set-three set′ (x .channel .settings) (y .channel .settings) (z .channel .settings) (w .stored), ex, ey, ez);
-              be = rw (ex, ey, ez);
-              mask = refl;
-              key = refl;
+              heads = refl;
+              rows = all-rows t (edged 0 .channel) (edged 1 .channel) (edged 2 .channel) three;
               three = refl;
             };
-        answer = rw (ex, ey, ez);
-        memory = refl;
+        answer = refl;
       }
+
+  pub edges-give : (a b d : Headed) (t₁ t₂ t₃ : Rows) → EdgeGives (headAt h 0) t 0 edge a t₁ → EdgeGives (headAt h 1) t₁ 1 edge b t₂
+      → EdgeGives (headAt h 2) t₂ 2 edge d t₃ → Gives (triggerStep (gathered h t) edge) (edgesStored h a b d) t₃
+  edges-give a b d t₁ t₂ t₃ x y z =
+      let second = ap (λ (u : Rows). triggered (channelIn (headAt h 1) u 1) edge) (x .rows) ∙ same-second in
+      let rows = y .rows ∙ ap (λ (u : Rows). withRow u 1 (triggered (channelIn (headAt h 1) t₁ 1) edge .channel)) (x .rows)
+      ∙ ap (λ (u : Stepped). withRow one 1 (u .channel)) second in
+      let third = ap (λ (u : Rows). triggered (channelIn (headAt h 2) u 2) edge) rows ∙ same-third in
+      let last = z .rows ∙ ap (λ (u : Rows). withRow u 2 (triggered (channelIn (headAt h 2) t₂ 2) edge .channel)) rows
+      ∙ ap (λ (u : Stepped). withRow two 2 (u .channel)) third in
+      rw (x .given, y .given ∙ ap headedOf second, z .given ∙ ap headedOf third, last) edges-all

@@ -1,8 +1,15 @@
--- `part::rows::edge_at` meets its contract.
-use Rattle.part.specs.Laws.Rows.{headed-gives, rows-after}
+-- `part::rows::edge_at` meets its contract: what the edge makes of the channel, put into row c.
 use borrow.Author.Needs.{needs}
+use Rattle.part.specs.Laws.Rows.{lent-headed, lent-row}
+use Rattle.part.specs.Rows.{rowsIn}
 use Rattle.part.proofs.rows.edge_at.Statement.{statement}
 use Rattle.part.proofs.rows.edge_at.Tie as tie
+
+returns : tie.Need-returns
+returns c =
+    let a = c .before .before .before .before .before .before .args in
+    let e = c .trigger-lent .ensures in
+    record { given = lent-headed _ _ _ _ _ _ _ e; rows = lent-row _ _ _ _ _ _ _ e (a .c) (rowsIn (a .sla) (a .lens) (a .status) (a .counts) (a .settings)) }
 
 pub edge-at-spec : {M : Type 1} → statement M
 edge-at-spec =
@@ -18,5 +25,5 @@ edge-at-spec =
     (λ c. search needs)
     (λ c. search needs)
     (λ c. search needs)
-    (λ c. λ κs. c .before .before .before .before .before .pre .2)
-    (λ c. (headed-gives _ _ _ _ _ _ _ (c .trigger-lent .ensures), rows-after _ _ _ _ _ _ _ (c .trigger-lent .ensures) _ _ _ _ _ _)))
+    (λ c κs. search needs)
+    returns)

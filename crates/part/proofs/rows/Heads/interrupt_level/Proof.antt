@@ -1,6 +1,6 @@
 -- `part::rows::Heads::interrupt_level` meets its contract.
-use Rattle.part.specs.Registers.{interruptOf}
 use borrow.Author.Needs.{needs}
+use Rattle.part.specs.Registers.{interruptOf}
 use Rattle.part.proofs.rows.Heads.interrupt_level.Statement.{statement}
 use Rattle.part.proofs.rows.Heads.interrupt_level.Tie as tie
 
@@ -9,8 +9,8 @@ unfolding interruptOf
 interrupt-level-spec =
     tie.close
     (tie.spec
-    (λ c. λ κs. search needs)
-    (λ c. λ κs. search needs)
-    (λ c. λ κs. search needs)
-    (λ c. λ κs. search needs)
-    (λ c. λ sla lens s k set. rw (c .pulled .ensures, c .before .before .before .pending-at .ensures, c .before .before .pending-at2 .ensures, c .before .pending-at3 .ensures)))
+    (λ c κs. search needs)
+    (λ c κs. search needs)
+    (λ c κs. search needs)
+    (λ c κs. search needs)
+    (λ c t. rw (c .pulled .ensures, c .before .before .before .pending-at .ensures, c .before .before .pending-at2 .ensures, c .before .pending-at3 .ensures)))

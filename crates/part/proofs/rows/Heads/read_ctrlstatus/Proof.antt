@@ -1,6 +1,6 @@
 -- `part::rows::Heads::read_ctrlstatus` meets its contract.
-use Rattle.part.specs.Registers.{ctrlRead}
 use borrow.Author.Needs.{needs}
+use Rattle.part.specs.Registers.{ctrlRead}
 use Rattle.part.proofs.rows.Heads.read_ctrlstatus.Statement.{statement}
 use Rattle.part.proofs.rows.Heads.read_ctrlstatus.Tie as tie
 
@@ -9,7 +9,10 @@ unfolding ctrlRead
 read-ctrlstatus-spec =
     tie.close
     (tie.spec
-    (λ c. λ κs. search needs)
-    (λ c. λ κs. search needs)
-    (λ c. λ κs. search needs)
-    (λ c. (rw (c .before .with-be .ensures) at (c .tell .ensures .1 .0), λ sla lens s k set. rw (c .before .with-be .ensures, c .before .before .ctrlstatus .ensures sla lens s k set) at (c .tell .ensures .1 .1 sla lens s k set))))
+    (λ c κs. search needs)
+    (λ c κs. search needs)
+    (λ c κs. search needs)
+    (λ c.
+    let t = c .tell .ensures .1 in
+    let cleared = c .before .with-be .ensures in
+    (rw cleared at (t .0), λ u. rw (cleared, c .before .before .ctrlstatus .ensures u) at (t .1 u))))

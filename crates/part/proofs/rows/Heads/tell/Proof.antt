@@ -8,5 +8,5 @@ pub tell-spec : {M : Type 1} → statement M
 tell-spec =
     tie.close
     (tie.spec
-    (λ c. λ κs. search needs)
-    (λ c. (refl, (refl, λ sla lens s k set. rw (c .no-acts .ensures)))))
+    (λ c κs. search needs)
+    (λ c. (refl, (refl, λ t. rw (c .no-acts .ensures)))))

@@ -1,28 +1,62 @@
--- `part::rows::Heads::trigger` meets its contract.
-use Rattle.part.specs.Laws.Rows.{edge-does, rows-other, rows-three}
-use Rattle.part.specs.Laws.Range.{chan-in-range}
-use Rattle.part.specs.Rows.{gathered, headAt, channelOf, headedOf}
-use Rattle.channel.specs.Range.{inRange}
-use Rattle.channel.specs.Wires.{triggered}
-use Rattle.channel.specs.declared.state.Channel.{Channel}
+-- `part::rows::Heads::trigger` meets its contract: a channel's row is not touched by the others' edges.
 use native.Mathlib.Omega.{arith}
-use mathlib.Core.Path.{_≡_, _∙_, ap, refl, sym}
 use borrow.Author.Needs.{needs}
+use Rattle.part.specs.Rows.{rowsIn, gathered}
+use Rattle.part.specs.Laws.Range.{chan-in-range}
+use Rattle.part.specs.Laws.Rows.{edges-give, second-in-range, third-in-range}
 use Rattle.part.proofs.rows.Heads.trigger.Statement.{statement}
 use Rattle.part.proofs.rows.Heads.trigger.Tie as tie
+
+edge-at-requires : tie.Need-edge-at-requires
+edge-at-requires c κs =
+    let start = c .before .before .before .before .before .before in
+    let a = start .args in
+    let t = rowsIn (a .sla) (a .lens) (a .status) (a .counts) (a .settings) in
+    (omega arith, chan-in-range (gathered (a .t1) t) 0 (start .pre .1))
+
+edge-at-requires-2 : tie.Need-edge-at-requires-2
+edge-at-requires-2 c κs =
+    let first = c .before .before .before .before .before .before in
+    let start = first .before .before .before .before .before .before .before in
+    let a = start .args in
+    let t = rowsIn (a .sla) (a .lens) (a .status) (a .counts) (a .settings) in
+    (omega arith, second-in-range (a .t1) t (a .edge) (start .pre .1) (first .edge-at .result) _ (first .edge-at .ensures))
+
+edge-at-requires-3 : tie.Need-edge-at-requires-3
+edge-at-requires-3 c κs =
+    let second = c .before .before .before .before .before .before in
+    let first = second .before .before .before .before .before .before .before in
+    let start = first .before .before .before .before .before .before .before in
+    let a = start .args in
+    let t = rowsIn (a .sla) (a .lens) (a .status) (a .counts) (a .settings) in (
+      omega arith,
+      third-in-range (a .t1) t (a .edge) (start .pre .1) (first .edge-at .result) (second .edge-at2 .result) _ _ (first .edge-at .ensures) (second .edge-at2 .ensures),
+    )
+
+returns : tie.Need-returns
+returns c =
+    let third = c .before .before .before .before .before .before .before in
+    let second = third .before .before .before .before .before .before .before in
+    let first = second .before .before .before .before .before .before .before in
+    let start = first .before .before .before .before .before .before .before in
+    let a = start .args in
+    let t = rowsIn (a .sla) (a .lens) (a .status) (a .counts) (a .settings) in
+    rw (c .three-acts .ensures, c .before .be-after3 .ensures, c .before .before .be-after2 .ensures, c .before .before .before .be-after .ensures)
+    (edges-give (a .t1) t (a .edge) (start .pre .0) (first .edge-at .result) (second .edge-at2 .result) (third .edge-at3 .result) _ _ _
+    (first .edge-at .ensures) (second .edge-at2 .ensures) (third .edge-at3 .ensures))
 
 pub trigger-spec : {M : Type 1} → statement M
 trigger-spec =
     tie.close
     (tie.spec
     (λ c. search needs)
-    (λ c. λ κs. let a = c .before .before .before .before .before .before .args in (omega arith, c .before .before .before .before .before .before .pre .0, chan-in-range (gathered (a .t1) (c .before .before .before .before .before .before .args .sla .now) (c .before .before .before .before .before .before .args .lens .now) (c .before .before .before .before .before .before .args .status .now) (c .before .before .before .before .before .before .args .counts .now) (c .before .before .before .before .before .before .args .settings .now)) 0 (c .before .before .before .before .before .before .pre .1)))
+    edge-at-requires
     (λ c. search needs)
-    (λ c. λ κs. let a = c .before .before .before .before .before .before .before .before .before .before .before .before .before .args in let o = c .before .before .before .before .before .before .edge-at .ensures .1 in (omega arith, rows-three _ _ _ _ _ _ _ _ _ _ _ _ o (c .before .before .before .before .before .before .before .before .before .before .before .before .before .pre .0), rw (rows-other _ _ _ _ _ _ _ _ _ _ _ _ o (headAt (a .t1) 1) 1 (λ e. omega (arith, e))) (chan-in-range (gathered (a .t1) (c .before .before .before .before .before .before .before .before .before .before .before .before .before .args .sla .now) (c .before .before .before .before .before .before .before .before .before .before .before .before .before .args .lens .now) (c .before .before .before .before .before .before .before .before .before .before .before .before .before .args .status .now) (c .before .before .before .before .before .before .before .before .before .before .before .before .before .args .counts .now) (c .before .before .before .before .before .before .before .before .before .before .before .before .before .args .settings .now)) 1 (c .before .before .before .before .before .before .before .before .before .before .before .before .before .pre .1))))
+    edge-at-requires-2
     (λ c. search needs)
-    (λ c. λ κs. let a = c .before .before .before .before .before .before .before .before .before .before .before .before .before .before .before .before .before .before .before .before .args in let o = c .before .before .before .before .before .before .before .before .before .before .before .before .before .edge-at .ensures .1 in let u = c .before .before .before .before .before .before .edge-at2 .ensures .1 in (omega arith, rows-three _ _ _ _ _ _ _ _ _ _ _ _ u (rows-three _ _ _ _ _ _ _ _ _ _ _ _ o (c .before .before .before .before .before .before .before .before .before .before .before .before .before .before .before .before .before .before .before .before .pre .0)), rw (rows-other _ _ _ _ _ _ _ _ _ _ _ _ u (headAt (a .t1) 2) 2 (λ e. omega (arith, e)), rows-other _ _ _ _ _ _ _ _ _ _ _ _ o (headAt (a .t1) 2) 2 (λ e. omega (arith, e))) (chan-in-range (gathered (a .t1) (c .before .before .before .before .before .before .before .before .before .before .before .before .before .before .before .before .before .before .before .before .args .sla .now) (c .before .before .before .before .before .before .before .before .before .before .before .before .before .before .before .before .before .before .before .before .args .lens .now) (c .before .before .before .before .before .before .before .before .before .before .before .before .before .before .before .before .before .before .before .before .args .status .now) (c .before .before .before .before .before .before .before .before .before .before .before .before .before .before .before .before .before .before .before .before .args .counts .now) (c .before .before .before .before .before .before .before .before .before .before .before .before .before .before .before .before .before .before .before .before .args .settings .now)) 2 (c .before .before .before .before .before .before .before .before .before .before .before .before .before .before .before .before .before .before .before .before .pre .1))))
-    (λ c. λ κs. search needs)
-    (λ c. λ κs. search needs)
-    (λ c. λ κs. search needs)
-    (λ c. λ κs. search needs)
-    (λ c. let a = c .before .before .before .before .before .before .before .before .before .before .before .before .before .before .before .before .before .before .before .before .before .before .before .before .before .before .before .before .args in let o = c .before .before .before .before .before .before .before .before .before .before .before .before .before .before .before .before .before .before .before .before .before .edge-at .ensures in let u = c .before .before .before .before .before .before .before .before .before .before .before .before .before .before .edge-at2 .ensures in let v = c .before .before .before .before .before .before .before .edge-at3 .ensures in rw (c .three-acts .ensures, c .before .be-after3 .ensures, c .before .before .be-after2 .ensures, c .before .before .before .be-after .ensures, o .0, u .0, v .0) (edge-does (a .t1) (a .edge) (c .before .before .before .before .before .before .before .before .before .before .before .before .before .before .before .before .before .before .before .before .before .before .before .before .before .before .before .before .args .sla .now) (c .before .before .before .before .before .before .before .before .before .before .before .before .before .before .before .before .before .before .before .before .before .before .before .before .before .before .before .before .args .lens .now) (c .before .before .before .before .before .before .before .before .before .before .before .before .before .before .before .before .before .before .before .before .before .before .before .before .before .before .before .before .args .status .now) (c .before .before .before .before .before .before .before .before .before .before .before .before .before .before .before .before .before .before .before .before .before .before .before .before .before .before .before .before .args .counts .now) (c .before .before .before .before .before .before .before .before .before .before .before .before .before .before .before .before .before .before .before .before .before .before .before .before .before .before .before .before .args .settings .now) _ _ _ _ _ _ _ _ _ _ _ _ _ _ _ (c .before .before .before .before .before .before .before .before .before .before .before .before .before .before .before .before .before .before .before .before .before .before .before .before .before .before .before .before .pre .0) _ _ _ refl (ap (λ (x : Channel). triggered x (a .edge)) (rows-other _ _ _ _ _ _ _ _ _ _ _ _ (o .1) (headAt (a .t1) 1) 1 (λ e. omega (arith, e)))) (ap (λ (x : Channel). triggered x (a .edge)) (rows-other _ _ _ _ _ _ _ _ _ _ _ _ (u .1) (headAt (a .t1) 2) 2 (λ e. omega (arith, e)) ∙ rows-other _ _ _ _ _ _ _ _ _ _ _ _ (o .1) (headAt (a .t1) 2) 2 (λ e. omega (arith, e)))) (o .1) (u .1) (v .1))))
+    edge-at-requires-3
+    (λ c κs. search needs)
+    (λ c κs. search needs)
+    (λ c κs. search needs)
+    (λ c κs. search needs)
+    returns)

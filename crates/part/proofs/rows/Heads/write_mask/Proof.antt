@@ -1,9 +1,6 @@
 -- `part::rows::Heads::write_mask` meets its contract.
-use Rattle.part.specs.Registers.{ctrlWritten}
-use mathlib.Core.Path.{_∙_, ap}
-use Rattle.part.specs.declared.rows.Heads.{Heads}
-use lib.ListN.{length}
 use borrow.Author.Needs.{needs}
+use Rattle.part.specs.Registers.{ctrlWritten}
 use Rattle.part.proofs.rows.Heads.write_mask.Statement.{statement}
 use Rattle.part.proofs.rows.Heads.write_mask.Tie as tie
 
@@ -12,7 +9,11 @@ unfolding ctrlWritten
 write-mask-spec =
     tie.close
     (tie.spec
-    (λ c. λ κs. search needs)
-    (λ c. λ κs. search needs)
-    (λ c. λ κs. search needs)
-    (λ c. rw (c .before .with-mask .ensures, c .before .before .ctrl-kept .ensures) at (c .tell .ensures .1)))
+    (λ c κs. search needs)
+    (λ c κs. search needs)
+    (λ c κs. search needs)
+    (λ c.
+    let t = c .tell .ensures .1 in
+    let masked = c .before .with-mask .ensures in
+    let kept = c .before .before .ctrl-kept .ensures in
+    (rw masked at (t .0), λ u. rw (masked, kept) at (t .1 u))))

@@ -1,16 +1,33 @@
--- `part::state::Part::advance` meets its contract.
-use Rattle.part.specs.Laws.Rows.{does-step, gathered-spread, spread-rows}
-use mathlib.Core.Path.{_≡_, refl}
+-- `part::state::Part::advance` meets its contract: the part taken apart, stepped, and put together.
+use mathlib.Core.Path.{_≡_, refl, _∙_, ap}
 use borrow.Author.Needs.{needs}
+use Rattle.part.specs.Laws.Rows.{gives-step, holds-part, holds-ready}
 use Rattle.part.proofs.state.Part.advance.Statement.{statement}
 use Rattle.part.proofs.state.Part.advance.Tie as tie
+
+spread-requires : tie.Need-spread-requires
+spread-requires c κs = record { slas = refl; lengths = refl; statuses = refl; counts = refl; stored = refl }
+
+advance-requires : tie.Need-advance-requires
+advance-requires c κs =
+    let spread = c .before .before .before .before .before .before in
+    let start = spread .before .before .before .before .before .before .before in
+    holds-ready (start .args .self) (spread .spread .result) _ (spread .spread .ensures) _ (start .pre)
+
+returns : tie.Need-returns
+returns c =
+    let advance = c .before .before .before .before .before .before .before .before .before .before in
+    let spread = advance .before .before .before .before .before .before .before in
+    let a = spread .before .before .before .before .before .before .before .args in
+    let d = rw (holds-part (a .self) (spread .spread .result) _ (spread .spread .ensures)) at (advance .advance .ensures) in
+    (rw (c .gather .ensures) (gives-step _ _ _ (d .0)), d .1)
 
 pub advance-spec : {M : Type 1} → statement M
 advance-spec =
     tie.close
     (tie.spec
-    (λ c. λ κs. record { slas = refl; lengths = refl; statuses = refl; counts = refl; stored = refl })
-    (λ c. λ κs. (spread-rows _ _ _ _ _ _ _ (c .before .before .before .before .before .before .spread .ensures), rw (gathered-spread _ _ _ _ _ _ _ (c .before .before .before .before .before .before .spread .ensures)) (c .before .before .before .before .before .before .before .before .before .before .before .before .before .pre)))
-    (λ c. λ κs. search needs)
+    spread-requires
+    advance-requires
+    (λ c κs. search needs)
     (λ c. search needs)
-    (λ c. let d = rw (gathered-spread _ _ _ _ _ _ _ (c .before .before .before .before .before .before .before .before .before .before .before .before .before .before .before .before .before .spread .ensures)) at (c .before .before .before .before .before .before .before .before .before .before .advance .ensures) in (rw (c .gather .ensures) (does-step _ _ _ _ _ _ _ _ _ _ d), d .memory)))
+    returns)
