@@ -9,7 +9,8 @@ ghost use Rattle.sequence.specs.Wires.{Exists, Ready, haltedOf, nextOf, restOf,
 ghost use Rattle.sequence.specs.Walk.{idle, nackFlags, errorNoted, lateFlags, lateWalk, faultFlags};
 ghost use Rattle.channel.specs.Head.{joined, told, headWalk, headFlags, inPhase, endedSo, Writes, Turns, Counts, Starts, Begins, Walks, Sends};
 ghost use Rattle.channel.specs.Range.{inRange};
-ghost use Rattle.channel.specs.Wires.{movedTo, onward, finished, startedBy, started, beganBy, begun, sendOn, ackAddress, ackSending, receiveOn, received, failedBy, nacked, turned, turnStore, beaten, triggered, cleared, haltOf, lengthOf, Counting, Meets};
+ghost use Rattle.channel.specs.Wires.{movedTo, onward, finished, startedBy, started, beganBy, begun, sendOn, ackAddress, ackSending, receiveOn, received, failedBy, nacked};
+ghost use Rattle.channel.specs.Wires.{turned, turnStore, beaten, triggered, cleared, haltOf, lengthOf, Counting, Meets};
 use crate::state::Channel;
 use crate::state::Head;
 use crate::state::Headed;
@@ -196,7 +197,9 @@ impl Head {
         settings: &'a [u8; 6],
     ) -> Headed
         requires { ⌜ getD (now lens) 0 0 ≤ 64 ⌝ }
-        ensures { λ r. ⌜ Turns (λ c. started (cleared c)) self (now (sla .entry)) (now (lens .entry)) (now (status .entry)) (now (counts .entry)) (now (settings .entry)) r (now (status .exit)) (now (counts .exit)) ⌝ }
+        ensures { λ r. ⌜ Turns (λ c. started (cleared c)) self
+            (now (sla .entry)) (now (lens .entry)) (now (status .entry)) (now (counts .entry)) (now (settings .entry))
+            r (now (status .exit)) (now (counts .exit)) ⌝ }
     {
         *status = [0; 64];
         *counts = [0; 64];
@@ -213,7 +216,9 @@ impl Head {
         b: Beginning,
     ) -> Headed
         requires { ⌜ getD (now lens) 0 0 ≤ 64 ⌝ }
-        ensures { λ r. ⌜ Turns (λ c. beganBy c b) self (now (sla .entry)) (now (lens .entry)) (now (status .entry)) (now (counts .entry)) (now (settings .entry)) r (now (status .exit)) (now (counts .exit)) ⌝ }
+        ensures { λ r. ⌜ Turns (λ c. beganBy c b) self
+            (now (sla .entry)) (now (lens .entry)) (now (status .entry)) (now (counts .entry)) (now (settings .entry))
+            r (now (status .exit)) (now (counts .exit)) ⌝ }
     {
         match b {
             Beginning::Empty => self.to_idle().answer(0),
@@ -321,7 +326,9 @@ impl Head {
         n: usize,
     ) -> Headed
         requires { ⌜ Counting (now lens) (now counts) n × (length (now mem) ≡ 4352) ⌝ }
-        ensures { λ r. ⌜ Counts (λ c. ackSending c (now (mem .entry)) n) self (now (sla .entry)) (now (lens .entry)) (now (status .entry)) (now (counts .entry)) r (now (status .exit)) (now (counts .exit)) ⌝ }
+        ensures { λ r. ⌜ Counts (λ c. ackSending c (now (mem .entry)) n) self
+            (now (sla .entry)) (now (lens .entry)) (now (status .entry)) (now (counts .entry))
+            r (now (status .exit)) (now (counts .exit)) ⌝ }
     {
         let len = rules::byte(lens[n + 1]);
         let k = rules::byte(counts[n]) + 1;
@@ -379,7 +386,10 @@ impl Head {
         b: u8,
     ) -> Headed
         requires { ⌜ Counting (now lens) (now counts) n × (length (now mem) ≡ 4352) ⌝ }
-        ensures { λ r. ⌜ Counts (λ c. received c n) self (now (sla .entry)) (now (lens .entry)) (now (status .entry)) (now (counts .entry)) r (now (status .exit)) (now (counts .exit)) × (now (mem .exit) ≡ set (now (mem .entry)) (startOf (now (lens .entry)) n + getD (now (counts .entry)) n 0) b) ⌝ }
+        ensures { λ r. ⌜ Counts (λ c. received c n) self
+            (now (sla .entry)) (now (lens .entry)) (now (status .entry)) (now (counts .entry))
+            r (now (status .exit)) (now (counts .exit))
+            × (now (mem .exit) ≡ set (now (mem .entry)) (startOf (now (lens .entry)) n + getD (now (counts .entry)) n 0) b) ⌝ }
     {
         let i = rules::start_of(lens, n) + rules::byte(counts[n]);
         mem[i] = b;
@@ -468,7 +478,10 @@ impl Head {
         t: Turn,
     ) -> Headed
         requires { ⌜ Meets (joined self (now sla) (now lens) (now status) (now counts) (now settings)) t × (length (now mem) ≡ 4352) ⌝ }
-        ensures { λ r. ⌜ Turns (λ c. turned c (now (mem .entry)) t) self (now (sla .entry)) (now (lens .entry)) (now (status .entry)) (now (counts .entry)) (now (settings .entry)) r (now (status .exit)) (now (counts .exit)) × (now (mem .exit) ≡ turnStore (joined self (now (sla .entry)) (now (lens .entry)) (now (status .entry)) (now (counts .entry)) (now (settings .entry))) (now (mem .entry)) t) ⌝ }
+        ensures { λ r. ⌜ Turns (λ c. turned c (now (mem .entry)) t) self
+            (now (sla .entry)) (now (lens .entry)) (now (status .entry)) (now (counts .entry)) (now (settings .entry))
+            r (now (status .exit)) (now (counts .exit))
+            × (now (mem .exit) ≡ turnStore (joined self (now (sla .entry)) (now (lens .entry)) (now (status .entry)) (now (counts .entry)) (now (settings .entry))) (now (mem .entry)) t) ⌝ }
     {
         match t {
             Turn::Unawaited => self.answer(7),
@@ -494,7 +507,9 @@ impl Head {
         b: Beat,
     ) -> Headed
         requires { ⌜ getD (now lens) 0 0 ≤ 64 ⌝ }
-        ensures { λ r. ⌜ Turns (λ c. beaten c b) self (now (sla .entry)) (now (lens .entry)) (now (status .entry)) (now (counts .entry)) (now (settings .entry)) r (now (status .exit)) (now (counts .exit)) ⌝ }
+        ensures { λ r. ⌜ Turns (λ c. beaten c b) self
+            (now (sla .entry)) (now (lens .entry)) (now (status .entry)) (now (counts .entry)) (now (settings .entry))
+            r (now (status .exit)) (now (counts .exit)) ⌝ }
     {
         match b {
             Beat::Quiet => self.answer(0),
@@ -514,7 +529,9 @@ impl Head {
         edge: Edge,
     ) -> Headed
         requires { ⌜ inRange (joined self (now sla) (now lens) (now status) (now counts) (now settings)) ≡ true ⌝ }
-        ensures { λ r. ⌜ Writes (λ c. triggered c edge) self (now (sla .entry)) (now (lens .entry)) (now (status .entry)) (now (counts .entry)) (now (settings .entry)) r (now (sla .exit)) (now (lens .exit)) (now (status .exit)) (now (counts .exit)) (now (settings .exit)) ⌝ }
+        ensures { λ r. ⌜ Writes (λ c. triggered c edge) self
+            (now (sla .entry)) (now (lens .entry)) (now (status .entry)) (now (counts .entry)) (now (settings .entry))
+            r (now (sla .exit)) (now (lens .exit)) (now (status .exit)) (now (counts .exit)) (now (settings .exit)) ⌝ }
     {
         let walk = self.walk;
         let p = walk.phase;

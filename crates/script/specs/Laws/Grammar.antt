@@ -30,7 +30,21 @@ module _ (l : List ℕ) (h : 12 ≤ length l) where
   pub long-unreadable : lineOf l ≡ Unreadable
   unfolding lineOf edgeLine eventLine clockLine faultLine if_then_else_
   long-unreadable =
-      rw (no "W aa dd" tt, no "R aa" tt, no "X" tt, no "T R" tt, no "T F" tt, no "E c ACK" tt, no "E c NACK" tt, no "E c BYTE bb" tt, no "E c TICK" tt, no "E c STOP" tt, no "E c SDA" tt, no "E c SCL" tt, no "E c ILL" tt)
+      rw (
+        no "W aa dd" tt,
+        no "R aa" tt,
+        no "X" tt,
+        no "T R" tt,
+        no "T F" tt,
+        no "E c ACK" tt,
+        no "E c NACK" tt,
+        no "E c BYTE bb" tt,
+        no "E c TICK" tt,
+        no "E c STOP" tt,
+        no "E c SDA" tt,
+        no "E c SCL" tt,
+        no "E c ILL" tt,
+      )
 
 by-length : (l : List ℕ) (b : Bool) → leb 12 (length l) ≡ b → lineOf (take 12 l) ≡ lineOf l
 by-length l true e =
