@@ -1,21 +1,14 @@
 // The lines of a block answered in turn, each by a step of the part.
 ghost use mathlib.Core.Path.{_≡_};
 ghost use Prim.Native.Nat.{_≤_};
-ghost use lib.ListN.{length};
-ghost use Rattle.part.specs.Map.{InPart};
-ghost use Rattle.part.specs.Rows.{gathered, ThreeRows, Does};
-ghost use Rattle.part.specs.Step.{Whole};
-ghost use Rattle.runner.specs.Performing.{aimAt, aimOf, InAim, performedRest, restBytes};
 ghost use lib.Dec.{ltb};
+ghost use lib.ListN.{length};
+ghost use Rattle.part.specs.Step.{Whole};
 ghost use Rattle.runner.specs.Text.{numberAfter};
 ghost use Rattle.runner.specs.Feeding.{Room, Answered};
 use crate::lines::line_end;
-use channel::Op;
-use part::Heads;
-use part::HeadsStepped;
 use part::Part;
 use part::Target;
-use part::Wide;
 use script::Line;
 
 // How far a block is answered: the part, the number of the last step, the place of the next line in the block, and the output's next free place.
@@ -25,64 +18,6 @@ pub struct Course {
     pub from: usize,
     pub at: usize,
 }
-
-// ---- a line
-
-// What concerns no single channel: a step of the whole part, or a line that can't be read.
-enum Rest {
-    All(Wide),
-    Unread,
-}
-
-// What a line asks for: a step of one channel, or something else.
-enum Aim {
-    One(Op, u8),
-    Others(Rest),
-}
-
-fn aim_at(t: Target) -> Aim
-    requires { ⌜ InPart t ⌝ }
-    ensures { λ r. ⌜ (r ≡ aimAt t) × InAim r ⌝ }
-{
-    match t {
-        Target::One(op, c) => Aim::One(op, c),
-        Target::All(w) => Aim::Others(Rest::All(w)),
-    }
-}
-
-fn aim_of(line: Line) -> Aim
-    ensures { λ r. ⌜ (r ≡ aimOf line) × InAim r ⌝ }
-{
-    match line {
-        Line::Readable(s) => aim_at(part::target_of(s)),
-        Line::Unreadable => Aim::Others(Rest::Unread),
-    }
-}
-
-// A line that can't be read is no. 8 and leaves the part.
-fn perform(
-    heads: Heads,
-    sla: &mut [[u8; 64]; 3],
-    lens: &mut [[u8; 65]; 3],
-    status: &mut [[u8; 64]; 3],
-    counts: &mut [[u8; 64]; 3],
-    settings: &mut [[u8; 6]; 3],
-    mem: &mut [u8],
-    t: Rest,
-) -> HeadsStepped
-    requires { ⌜ ThreeRows (now sla) (now lens) (now status) (now counts) (now settings) × Whole (gathered heads (now sla) (now lens) (now status) (now counts) (now settings)) (now mem) ⌝ }
-    ensures { λ r. ⌜ Does (performedRest (gathered heads (now (sla .entry)) (now (lens .entry)) (now (status .entry)) (now (counts .entry)) (now (settings .entry))) t) (restBytes (gathered heads (now (sla .entry)) (now (lens .entry)) (now (status .entry)) (now (counts .entry)) (now (settings .entry))) (now (mem .entry)) t) (r .heads) (r .answer) (now (sla .exit)) (now (lens .exit)) (now (status .exit)) (now (counts .exit)) (now (settings .exit)) (now (mem .exit)) ⌝ }
-{
-    match t {
-        Rest::All(w) => heads.all(sla, lens, status, counts, settings, mem, w),
-        Rest::Unread => HeadsStepped {
-            heads,
-            answer: script::unreadable(),
-        },
-    }
-}
-
-// ---- a step a line
 
 // The number of the next step. It stays at the largest one, which no run reaches.
 fn next_number(step: u64) -> u64
@@ -127,48 +62,52 @@ pub fn answer_lines(s: Course, block: &[u8], mem: &mut [u8], out: &mut [u8]) -> 
     let mut end = line_end(block, from);
     while has_room(end, block.len()) {
         let l = script::read_line(&block[from..end]);
-        let a = aim_of(l);
         let mut answer = script::unreadable();
-        match a {
-            Aim::One(op, c) => {
-                let i = c as usize;
-                let h = heads.channels[i];
-                let k = heads.common;
-                let r = part::one(
-                    h,
-                    k,
-                    &mut sla,
-                    &mut lens,
-                    &mut status,
-                    &mut counts,
-                    &mut settings,
-                    mem,
-                    c,
-                    op,
-                );
-                let g = r.head;
-                heads.channels[i] = g;
-                let common = r.common;
-                heads.common = common;
-                let reply = r.answer;
-                answer = reply;
+        match l {
+            Line::Readable(a) => {
+                let t = part::target_of(a);
+                match t {
+                    Target::One(op, c) => {
+                        let i = c as usize;
+                        let h = heads.channels[i];
+                        let k = heads.common;
+                        let r = part::one(
+                            h,
+                            k,
+                            &mut sla,
+                            &mut lens,
+                            &mut status,
+                            &mut counts,
+                            &mut settings,
+                            mem,
+                            c,
+                            op,
+                        );
+                        let g = r.head;
+                        heads.channels[i] = g;
+                        let common = r.common;
+                        heads.common = common;
+                        let reply = r.answer;
+                        answer = reply;
+                    }
+                    Target::All(w) => {
+                        let r = heads.all(
+                            &mut sla,
+                            &mut lens,
+                            &mut status,
+                            &mut counts,
+                            &mut settings,
+                            mem,
+                            w,
+                        );
+                        let after = r.heads;
+                        heads = after;
+                        let reply = r.answer;
+                        answer = reply;
+                    }
+                }
             }
-            Aim::Others(t) => {
-                let r = perform(
-                    heads,
-                    &mut sla,
-                    &mut lens,
-                    &mut status,
-                    &mut counts,
-                    &mut settings,
-                    mem,
-                    t,
-                );
-                let after = r.heads;
-                heads = after;
-                let reply = r.answer;
-                answer = reply;
-            }
+            Line::Unreadable => (),
         }
         step = next_number(step);
         at = script::write_answer(step, answer, heads.interrupt_level(), out, at);

@@ -12,34 +12,23 @@ use lib.ListN.{length, take, drop, length-append, length-drop}
 use lib.Seq.{drop-drop, length-sets}
 use Rattle.laws.specs.Sets.{sets-append}
 use Rattle.laws.specs.Pick.{if_then_else_}
-use Rattle.channel.specs.declared.step.Op.{Op}
-use Rattle.channel.specs.Step.{servedBy, servedStore}
 use Rattle.part.specs.declared.rows.Heads.{Heads}
-use Rattle.part.specs.declared.rows.OneStepped.{OneStepped}
 use Rattle.part.specs.declared.state.Part.{Part}
 use Rattle.part.specs.declared.state.PartAnswer.{PartAnswer}
-use Rattle.part.specs.declared.state.PartStepped.{PartStepped}
 use Rattle.part.specs.Registers.{interruptOf}
-use Rattle.part.specs.Rows.{channelOf, gathered, Spread, RowsAfter, oneOf, storedHead, Does}
-use Rattle.part.specs.State.{window, putWindow}
+use Rattle.part.specs.Rows.{Rows, gathered, Holds}
 use Rattle.part.specs.Step.{Whole}
-use Rattle.part.specs.Laws.Rows.{gathered-spread, one-does}
-use Rattle.independent.specs.Statement.{State}
+use Rattle.part.specs.Laws.Rows.{holds-part}
 use Rattle.script.specs.declared.reading.Line.{Line}
-use Rattle.script.specs.declared.reading.Line.the-variants.{Readable, Unreadable}
 use Rattle.script.specs.Answer.{Put, textIf, roomy, answerLine}
 use Rattle.script.specs.Grammar.{lineOf}
-use Rattle.runner.specs.declared.answering.Aim.{Aim}
-use Rattle.runner.specs.declared.answering.Aim.the-variants.{One, Others}
 use Rattle.runner.specs.declared.answering.Course.{Course}
-use Rattle.runner.specs.declared.answering.Rest.{Rest}
-use Rattle.runner.specs.Run.{answered, afterLine}
 use Rattle.runner.specs.Lines.{firstLf, lineEnd}
-use Rattle.runner.specs.Performing.{performed, performedBytes, aimOf, performedRest, restBytes, aimed, aimedBytes}
+use Rattle.runner.specs.Performing.{performed}
 use Rattle.runner.specs.Text.{Desk, endedLines, restOf, afterOne, replyTo, afterAll, repliesTo, numberAfter}
 use Rattle.runner.specs.Feeding.{deskOf, linesFrom, Room, Answered}
 use Rattle.runner.specs.Laws.Lines.{end-after, end-in}
-use Rattle.runner.specs.Laws.Performing.{aimed-performed, aimed-bytes, performed-whole}
+use Rattle.runner.specs.Laws.Performing.{Performs, performed-whole}
 
 -- ---- the next line of some bytes
 next-line : (line l : List ℕ) → firstLf l < length l → endedLines line l ≡ (line ++ take (firstLf l) l) ∷ endedLines [] (drop (firstLf l + 1) l)
@@ -93,28 +82,12 @@ pub after-whole-one : (d : Desk) (l : List ℕ) → Whole (d .state .part) (d .s
 unfolding afterOne
 after-whole-one d l w = performed-whole (d .state .part) (d .state .memory) (lineOf l) w
 
--- ---- what a line does to a part that is taken apart
-module _ (p : Part) (m : List ℕ) (h : Heads) (sla lens s k set′ : List (List ℕ)) (w : Spread p h sla lens s k set′) (y : Whole p m) (a : Aim) (l : Line) (g : a ≡ aimOf l)
-    (x₁ x₂ x₃ x₄ x₅ : List (List ℕ)) (n : List ℕ) where
-  by-aim : (b : Aim) (h′ : Heads) (reply : PartAnswer) → a ≡ b → Does (aimed p m b) (aimedBytes p m b) h′ reply x₁ x₂ x₃ x₄ x₅ n
-      → Does (performed p m l) (performedBytes p m l) h′ reply x₁ x₂ x₃ x₄ x₅ n
-  by-aim b h′ reply e d = rw (← aimed-performed p m l y, ← aimed-bytes p m l y, ← g, e) d
-
-  pub does-one : (c : ℕ) (op : Op) (r : OneStepped) → c < 3 → a ≡ One op c
-      → r ≡ oneOf (h .common) c op (servedBy (channelOf h sla lens s k set′ c) (window c m) c op)
-      → RowsAfter c (servedBy (channelOf h sla lens s k set′ c) (window c m) c op .channel) sla lens s k set′ x₁ x₂ x₃ x₄ x₅
-      → n ≡ putWindow c (servedStore (channelOf h sla lens s k set′ c) (window c m) c op) m
-      → Does (performed p m l) (performedBytes p m l) (storedHead h c r) (r .answer) x₁ x₂ x₃ x₄ x₅ n
-  does-one c op r q e u v b = by-aim (One op c) (storedHead h c r) (r .answer) e (one-does p h sla lens s k set′ w m c op r x₁ x₂ x₃ x₄ x₅ n q u v b)
-
-  pub does-rest : (t : Rest) (h′ : Heads) (reply : PartAnswer) → a ≡ Others t
-      → Does (performedRest (gathered h sla lens s k set′) t) (restBytes (gathered h sla lens s k set′) m t) h′ reply x₁ x₂ x₃ x₄ x₅ n
-      → Does (performed p m l) (performedBytes p m l) h′ reply x₁ x₂ x₃ x₄ x₅ n
-  does-rest t h′ reply e d =
-      by-aim (Others t) h′ reply e
-      (subst (λ (x : Part). Does (performedRest x t) (restBytes x m t) h′ reply x₁ x₂ x₃ x₄ x₅ n) (gathered-spread p h sla lens s k set′ w) d)
-
 -- ---- the loop
+
+-- five arrays as rows
+abbrev pub asRows : List (List ℕ) → List (List ℕ) → List (List ℕ) → List (List ℕ) → List (List ℕ) → Rows
+asRows sla lens status counts settings = record { slas = sla; lengths = lens; statuses = status; counts = counts; stored = settings }
+
 pub put-length : (l : List ℕ) (at : ℕ) (text : List ℕ) (r : ℕ) (m : List ℕ) → Put l at text r m → length m ≡ length l
 put-length l at text r m w = ap length (w .bytes) ∙ length-sets l at text
 
@@ -125,9 +98,10 @@ put-then l m n s t at i j p q =
       bytes = q .bytes ∙ rw (p .bytes, p .place) (sym (sets-append l s t at));
     }
 
-pub record Going (block : List ℕ) (s₀ : Course) (m₀ o₀ : List ℕ) (h : Heads) (sla lens s k set : List (List ℕ)) (m o : List ℕ) (step from at end : ℕ) : Type 0 where
+-- after some turns: the heads h and the rows t hold the part, and what is left to answer is the same as at the start, behind what was told
+pub record Going (block : List ℕ) (s₀ : Course) (m₀ o₀ : List ℕ) (h : Heads) (t : Rows) (m o : List ℕ) (step from at end : ℕ) : Type 0 where
   pub part : Part
-  pub spread : Spread part h sla lens s k set
+  pub holds : Holds part h t
   pub whole : Whole part m
   pub told : List ℕ
   pub texts : repliesTo (deskOf (s₀ .part) m₀ (s₀ .step)) (linesFrom block (s₀ .from)) ≡ told ++ repliesTo (deskOf part m step) (linesFrom block from)
@@ -138,7 +112,8 @@ pub record Going (block : List ℕ) (s₀ : Course) (m₀ o₀ : List ℕ) (h : 
   pub here : end ≡ lineEnd block from
   pub inside : from ≤ length block
 
-module _ (block : List ℕ) (s₀ : Course) (m₀ o₀ : List ℕ) (h : Heads) (sla lens s k set′ : List (List ℕ)) (m o : List ℕ) (step from at end : ℕ) (w : Going block s₀ m₀ o₀ h sla lens s k set′ m o step from at end) where
+module _ (block : List ℕ) (s₀ : Course) (m₀ o₀ : List ℕ) (h : Heads) (t : Rows) (m o : List ℕ) (step from at end : ℕ)
+    (w : Going block s₀ m₀ o₀ h t m o step from at end) where
   bytes : List ℕ
   bytes = take (end - from) (drop from block)
 
@@ -173,19 +148,19 @@ module _ (block : List ℕ) (s₀ : Course) (m₀ o₀ : List ℕ) (h : Heads) (
       let e = end-after block from in
       le-leb (at + 80) (length o) (omega (arith, i, e, w .here, w .room))
 
-  pub going-on : (l : Line) (h′ : Heads) (x₁ x₂ x₃ x₄ x₅ : List (List ℕ)) (answer : PartAnswer) (int : Bool) (m′ o′ : List ℕ) (step′ at′ from′ end′ : ℕ)
+  pub going-on : (l : Line) (h′ : Heads) (t′ : Rows) (answer : PartAnswer) (int : Bool) (m′ o′ : List ℕ) (step′ at′ from′ end′ : ℕ)
       → ltb end (length block) ≡ true → l ≡ lineOf (take (end - from) (drop from block))
-      → Does (performed (w .part) m l) (performedBytes (w .part) m l) h′ answer x₁ x₂ x₃ x₄ x₅ m′
-      → step′ ≡ numberAfter step → int ≡ interruptOf (gathered h′ x₁ x₂ x₃ x₄ x₅)
+      → Performs (w .part) m l (record { heads = h′; answer = answer }) t′ m′
+      → step′ ≡ numberAfter step → int ≡ interruptOf (gathered h′ t′)
       → Put o at (textIf (roomy (length o) at) (answerLine step′ answer int)) at′ o′ → at′ ≤ at + 80 → from′ ≡ end + 1 → end′ ≡ lineEnd block from′
-      → Going block s₀ m₀ o₀ h′ x₁ x₂ x₃ x₄ x₅ m′ o′ step′ from′ at′ end′
+      → Going block s₀ m₀ o₀ h′ t′ m′ o′ step′ from′ at′ end′
   unfolding bytes afterAll repliesTo afterOne replyTo textIf if_then_else_
-  going-on l h′ x₁ x₂ x₃ x₄ x₅ answer int m′ o′ step′ at′ from′ end′ goes read d n i put fits f e =
+  going-on l h′ t′ answer int m′ o′ step′ at′ from′ end′ goes read (d, memory) n i put fits f e =
       let p = w .part in
       let q = performed p m l in
-      let level : int ≡ interruptOf (q .part) = i ∙ ap interruptOf (gathered-spread (q .part) h′ x₁ x₂ x₃ x₄ x₅ (d .spread)) in
+      let level : int ≡ interruptOf (q .part) = i ∙ ap interruptOf (holds-part (q .part) h′ t′ (d .holds)) in
       let after : afterOne (deskOf p m step) bytes ≡ deskOf (q .part) m′ step′ =
-      rw (← read, d .memory, n) in
+      rw (← read, memory, n) in
       let text : replyTo (deskOf p m step) bytes ≡ answerLine step′ answer int =
       rw (← read, d .answer, level, n) in
       let new : Put o at (answerLine step′ answer int) at′ o′ = rw (room-here goes) at put in
@@ -194,8 +169,8 @@ module _ (block : List ℕ) (s₀ : Course) (m₀ o₀ : List ℕ) (h : Heads) (
       let z = put-length o at (answerLine step′ answer int) at′ o′ new in
       record {
         part = q .part;
-        spread = d .spread;
-        whole = rw (d .memory) (performed-whole p m l (w .whole));
+        holds = d .holds;
+        whole = rw memory (performed-whole p m l (w .whole));
         told = w .told ++ answerLine step′ answer int;
         texts =
             w .texts
@@ -215,7 +190,7 @@ module _ (block : List ℕ) (s₀ : Course) (m₀ o₀ : List ℕ) (h : Heads) (
         inside = omega (arith, f, b);
       }
 
-  pub going-done : (r : Course) → ltb end (length block) ≡ false → r ≡ record { part = gathered h sla lens s k set′; step = step; from = from; at = at }
+  pub going-done : (r : Course) → ltb end (length block) ≡ false → r ≡ record { part = gathered h t; step = step; from = from; at = at }
       → Answered block s₀ m₀ o₀ r m o
   unfolding afterAll repliesTo lineEnd
   going-done r stop e =
@@ -226,12 +201,12 @@ module _ (block : List ℕ) (s₀ : Course) (m₀ o₀ : List ℕ) (h : Heads) (
       let none : linesFrom block from ≡ [] = no-line-ends [] (drop from block) all in
       let d₀ = deskOf (s₀ .part) m₀ (s₀ .step) in
       let d = deskOf (w .part) m step in
-      let t : repliesTo d₀ (linesFrom block (s₀ .from)) ≡ w .told =
+      let texts : repliesTo d₀ (linesFrom block (s₀ .from)) ≡ w .told =
       w .texts ∙ ap (λ (x : List (List ℕ)). w .told ++ repliesTo d x) none ∙ append-nil (w .told) in
       let z : afterAll d₀ (linesFrom block (s₀ .from)) ≡ d = w .ends ∙ ap (afterAll d) none in
       record {
-        desk = rw (e, gathered-spread (w .part) h sla lens s k set′ (w .spread)) (sym z);
-        text = rw (e, t) (w .put);
+        desk = rw (e, holds-part (w .part) h t (w .holds)) (sym z);
+        text = rw (e, texts) (w .put);
         rest = rw e (sym (w .rests ∙ all-rest [] (drop from block) all));
         inside = rw e (w .inside);
         fits = rw e (let z = w .room in omega (arith, z));
