@@ -17,6 +17,10 @@ use Rattle.bench.specs.declared.Bench.{Bench}
 use Rattle.bench.specs.declared.How.{How}
 use Rattle.bench.specs.declared.How.the-variants.{On, Ended, Unread, Unwritten}
 
+-- the bytes of the block that is read into
+abbrev pub blockSize : ℕ
+blockSize = 8192
+
 -- where a script stands that stands so in the program, with the part's memory m
 abbrev pub sittingOf : Seat → List ℕ → Sitting
 sittingOf s m = record { desk = deskOf (s .part) m (s .step); line = keptBytes (s .line) }

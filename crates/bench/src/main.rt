@@ -3,13 +3,23 @@ ghost use mathlib.Core.Path.{_≡_};
 ghost use Prim.Native.Nat.{_+_, _*_, _≤_};
 ghost use lib.ListN.{length, take, drop};
 ghost use Rattle.part.specs.State.{wiped};
-ghost use Rattle.bench.specs.Talk.{sittingOf, bareOf, silenced, Sized, Ready, Heard, Closed, Written, goingOn, Begun, Turned};
+ghost use Rattle.script.specs.Answer.{answerRoom};
+ghost use Rattle.script.specs.Grammar.{lineRoom};
+ghost use Rattle.bench.specs.Talk.{blockSize, sittingOf, bareOf, silenced, Sized, Ready, Heard, Closed, Written, goingOn, Begun, Turned};
 use libc::STDERR_FILENO;
 use libc::STDIN_FILENO;
 use libc::STDOUT_FILENO;
 use part::Part;
 use runner::Course;
 use runner::Start;
+use script::ANSWER_ROOM;
+use script::LINE_ROOM;
+
+// The bytes of the block that is read into (`blockSize`).
+const BLOCK: usize = 8192;
+
+// Those of the output: room for an answer to each byte of the block.
+const OUTPUT: usize = ANSWER_ROOM * BLOCK;
 
 // Where the program stands between two reads: the part, the number of the last step, the line that has begun, and how many bytes of text are in the output.
 struct Seat {
@@ -38,7 +48,7 @@ struct Bench {
 
 // Answers each line that ends in the block and keeps the start of the line that doesn't.
 fn answer_block(s: Seat, block: &[u8], mem: &mut [u8], out: &mut [u8]) -> Seat
-    requires { ⌜ Ready s (now mem) × (80 * length (now block) ≤ length (now out)) ⌝ }
+    requires { ⌜ Ready s (now mem) × (answerRoom * length (now block) ≤ length (now out)) ⌝ }
     ensures { λ r. ⌜ Heard (bareOf s (now (mem .entry))) (now (block .entry)) r (now (mem .exit)) (now (out .exit)) ⌝ }
 {
     let part = s.part;
@@ -59,16 +69,16 @@ fn answer_block(s: Seat, block: &[u8], mem: &mut [u8], out: &mut [u8]) -> Seat
     }
 }
 
-// Answers the line that was begun and n bytes more, which the block has from place 12 on.
+// Answers the line that was begun and n bytes more, which the block has from place LINE_ROOM on.
 fn answer_from(s: Seat, block: &mut [u8], n: usize, mem: &mut [u8], out: &mut [u8]) -> Seat
-    requires { ⌜ Ready s (now mem) × (12 + n ≤ length (now block)) × (80 * length (now block) ≤ length (now out)) ⌝ }
-    ensures { λ r. ⌜ Heard (sittingOf s (now (mem .entry))) (take n (drop 12 (now (block .entry)))) r (now (mem .exit)) (now (out .exit)) ⌝ }
-    ensures { λ r. ⌜ (drop 12 (now (block .exit)) ≡ drop 12 (now (block .entry))) × Sized (s .line) ⌝ }
+    requires { ⌜ Ready s (now mem) × (lineRoom + n ≤ length (now block)) × (answerRoom * length (now block) ≤ length (now out)) ⌝ }
+    ensures { λ r. ⌜ Heard (sittingOf s (now (mem .entry))) (take n (drop lineRoom (now (block .entry)))) r (now (mem .exit)) (now (out .exit)) ⌝ }
+    ensures { λ r. ⌜ (drop lineRoom (now (block .exit)) ≡ drop lineRoom (now (block .entry))) × Sized (s .line) ⌝ }
 {
     let line = s.line;
     let bytes = line.bytes;
     let at = runner::put_start(bytes, runner::kept(line.len), block);
-    answer_block(s, &block[at..12 + n], mem, out)
+    answer_block(s, &block[at..LINE_ROOM + n], mem, out)
 }
 
 // No text.
@@ -81,12 +91,12 @@ fn silent(mut s: Seat) -> Seat
 
 // The input has ended: what follows the last LF is a line if it has a byte.
 fn finish(s: Seat, block: &mut [u8], mem: &mut [u8], out: &mut [u8]) -> Seat
-    requires { ⌜ Ready s (now mem) × (13 ≤ length (now block)) × (80 * length (now block) ≤ length (now out)) ⌝ }
+    requires { ⌜ Ready s (now mem) × (lineRoom + 1 ≤ length (now block)) × (answerRoom * length (now block) ≤ length (now out)) ⌝ }
     ensures { λ r. ⌜ Closed (sittingOf s (now (mem .entry))) r (now (mem .exit)) (now (out .exit)) ⌝ }
 {
     let line = s.line;
     if 0 < line.len {
-        script::put(block, 12, b"\n");
+        script::put(block, LINE_ROOM, b"\n");
         return answer_from(s, block, 1, mem, out);
     }
     silent(s)
@@ -107,11 +117,11 @@ fn written(out: &[u8], n: usize, next: How) -> How
 
 // One read, of what is there, and the answers to its lines.
 fn turn(s: Seat, block: &mut [u8], mem: &mut [u8], out: &mut [u8]) -> Bench
-    requires { ⌜ Ready s (now mem) × (13 ≤ length (now block)) × (80 * length (now block) ≤ length (now out)) ⌝ }
-    ensures { λ r. ⌜ Turned s (now (mem .entry)) r (now (mem .exit)) (take (r .came) (drop 12 (now (block .exit)))) (take (r .seat .at) (now (out .exit))) ⌝ }
+    requires { ⌜ Ready s (now mem) × (lineRoom + 1 ≤ length (now block)) × (answerRoom * length (now block) ≤ length (now out)) ⌝ }
+    ensures { λ r. ⌜ Turned s (now (mem .entry)) r (now (mem .exit)) (take (r .came) (drop lineRoom (now (block .exit)))) (take (r .seat .at) (now (out .exit))) ⌝ }
     ensures { λ r. ⌜ Ready (r .seat) (now (mem .exit)) ⌝ }
 {
-    let got = libc::read(STDIN_FILENO, &mut block[12..]);
+    let got = libc::read(STDIN_FILENO, &mut block[LINE_ROOM..]);
     if got < 0 {
         return Bench {
             seat: silent(s),
@@ -119,7 +129,7 @@ fn turn(s: Seat, block: &mut [u8], mem: &mut [u8], out: &mut [u8]) -> Bench
             how: How::Unread,
         };
     }
-    let n = io::count(got, &block[12..]);
+    let n = io::count(got, &block[LINE_ROOM..]);
     if n == 0 {
         let last = finish(s, block, mem, out);
         return Bench {
@@ -138,7 +148,7 @@ fn turn(s: Seat, block: &mut [u8], mem: &mut [u8], out: &mut [u8]) -> Bench
 
 // The program begins: the part after a reset, and the header is written.
 fn begin(out: &mut [u8]) -> Bench
-    requires { ⌜ 80 ≤ length (now out) ⌝ }
+    requires { ⌜ answerRoom ≤ length (now out) ⌝ }
     ensures { λ r. ⌜ Begun r wiped (take (r .seat .at) (now (out .exit))) ⌝ }
 {
     let n = script::write_header(out, 0);
@@ -184,18 +194,16 @@ fn report(how: How) {
     }
 }
 
-// The block that is read into.
-fn input() -> [u8; 8192]
-    ensures { λ r. ⌜ length r ≡ 8192 ⌝ }
+fn input() -> [u8; BLOCK]
+    ensures { λ r. ⌜ length r ≡ blockSize ⌝ }
 {
-    [0; 8192]
+    [0; BLOCK]
 }
 
-// The output: room for an answer to each byte of the block.
-fn output() -> [u8; 655360]
-    ensures { λ r. ⌜ length r ≡ 655360 ⌝ }
+fn output() -> [u8; OUTPUT]
+    ensures { λ r. ⌜ length r ≡ answerRoom * blockSize ⌝ }
 {
-    [0; 655360]
+    [0; OUTPUT]
 }
 
 fn main() {

@@ -4,6 +4,7 @@ use mathlib.Core.List.{List, [], _∷_}
 use lib.Dec.{eqb, ltb}
 use lib.ListN.{take, drop, replicate, set}
 use Rattle.laws.specs.Pick.{if_then_else_}
+use Rattle.script.specs.Grammar.{lineRoom}
 use Rattle.runner.specs.declared.lines.Start.{Start}
 
 -- ---- a line ends before its LF (10)
@@ -21,20 +22,20 @@ lineEnd block from = from + firstLf (drop from block)
 
 -- no byte of the line is there yet
 abbrev pub noLine : Start
-noLine = record { bytes = replicate 12 0; len = 0 }
+noLine = record { bytes = replicate lineRoom 0; len = 0 }
 
--- one more byte, while there are fewer than 12: the first 12 are read as the whole line is (`read-in-pieces`, Laws/Lines.antt)
+-- one more byte, while there are fewer than `lineRoom`: the first `lineRoom` are read as the whole line is (`read-in-pieces`, Laws/Lines.antt)
 unfoldable pub withByte : Start → ℕ → Start
-withByte s b = if ltb (s .len) 12 then record { bytes = set (s .bytes) (s .len) b; len = s .len + 1 } else s
+withByte s b = if ltb (s .len) lineRoom then record { bytes = set (s .bytes) (s .len) b; len = s .len + 1 } else s
 
 -- the line with more of its bytes
 abbrev pub lengthened : Start → List ℕ → Start
 lengthened s [] = s
 lengthened s (b ∷ l) = lengthened (withByte s b) l
 
--- how many bytes are kept of a line, 12 at most
+-- how many bytes are kept of a line, `lineRoom` at most
 unfoldable pub keptOf : ℕ → ℕ
-keptOf len = if ltb len 12 then len else 12
+keptOf len = if ltb len lineRoom then len else lineRoom
 
 -- the bytes that are kept
 abbrev pub keptBytes : Start → List ℕ

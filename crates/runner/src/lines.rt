@@ -3,11 +3,13 @@ ghost use mathlib.Core.Path.{_≡_};
 ghost use Prim.Native.Nat.{_-_, _≤_};
 ghost use lib.ListN.{length, take};
 ghost use lib.Seq.{sets};
+ghost use Rattle.script.specs.Grammar.{lineRoom};
 ghost use Rattle.runner.specs.Lines.{noLine, withByte, lengthened, keptOf, lineEnd};
+use script::LINE_ROOM;
 
-// The line that is being read: its first twelve bytes, since no line of more than eleven can be read.
+// The line that is being read: as many of its first bytes as tell how it is read, since a line of LINE_ROOM bytes or more can't be.
 pub struct Start {
-    pub bytes: [u8; 12],
+    pub bytes: [u8; LINE_ROOM],
     pub len: usize,
 }
 
@@ -15,17 +17,17 @@ pub fn no_line() -> Start
     ensures { λ r. ⌜ r ≡ noLine ⌝ }
 {
     Start {
-        bytes: [0; 12],
+        bytes: [0; LINE_ROOM],
         len: 0,
     }
 }
 
-// One more byte of the line; past the twelfth it makes no difference.
+// One more byte of the line; past the first LINE_ROOM it makes no difference.
 fn with_byte(line: Start, b: u8) -> Start
     ensures { λ r. ⌜ r ≡ withByte line b ⌝ }
 {
     let n = line.len;
-    if n < 12 {
+    if n < LINE_ROOM {
         let mut next = line;
         next.bytes[n] = b;
         next.len = n + 1;
@@ -48,18 +50,18 @@ pub fn lengthen(line: Start, more: &[u8]) -> Start
 }
 
 pub fn kept(len: usize) -> usize
-    ensures { λ r. ⌜ (r ≡ keptOf len) × (r ≤ 12) ⌝ }
+    ensures { λ r. ⌜ (r ≡ keptOf len) × (r ≤ lineRoom) ⌝ }
 {
-    if len < 12 { len } else { 12 }
+    if len < LINE_ROOM { len } else { LINE_ROOM }
 }
 
-// Puts the n bytes that are kept of a line right before place 12 of the block, where a read goes on, and gives their place: so the line stands there
+// Puts the n bytes that are kept of a line right before place LINE_ROOM of the block, where a read goes on, and gives their place: so the line stands there
 // in one piece.
-pub fn put_start(bytes: [u8; 12], n: usize, block: &mut [u8]) -> usize
-    requires { ⌜ (n ≤ 12) × (12 ≤ length (now block)) ⌝ }
-    ensures { λ r. ⌜ (r ≡ 12 - n) × (now (block .exit) ≡ sets (now (block .entry)) r (take n bytes)) × (length (take n bytes) ≡ n) ⌝ }
+pub fn put_start(bytes: [u8; LINE_ROOM], n: usize, block: &mut [u8]) -> usize
+    requires { ⌜ (n ≤ lineRoom) × (lineRoom ≤ length (now block)) ⌝ }
+    ensures { λ r. ⌜ (r ≡ lineRoom - n) × (now (block .exit) ≡ sets (now (block .entry)) r (take n bytes)) × (length (take n bytes) ≡ n) ⌝ }
 {
-    let at = 12 - n;
+    let at = LINE_ROOM - n;
     script::put(block, at, &bytes[..n]);
     at
 }

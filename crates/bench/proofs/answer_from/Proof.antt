@@ -1,10 +1,12 @@
 -- `bench::answer_from` meets its contract.
 use Rattle.bench.specs.Laws.Blocks.{from-heard}
+use Rattle.script.specs.Grammar.{lineRoom}
 use borrow.Author.Needs.{needs}
 use Rattle.bench.proofs.answer_from.Statement.{statement}
 use Rattle.bench.proofs.answer_from.Tie as tie
 
 pub answer-from-spec : {M : Type 1} → statement M
+unfolding lineRoom
 answer-from-spec =
     tie.close
     (tie.spec

@@ -2,6 +2,7 @@
 use Prim.Native.Nat.{ℕ}
 use Rattle.bench.specs.Laws.Blocks.{last-heard, silent-closed}
 use Rattle.runner.specs.Laws.Lines.{put-one}
+use Rattle.script.specs.Grammar.{lineRoom}
 use borrow.Author.Needs.{needs}
 use lib.ListN.{drop, take}
 use mathlib.Core.List.{List}
@@ -10,6 +11,7 @@ use Rattle.bench.proofs.finish.Statement.{statement}
 use Rattle.bench.proofs.finish.Tie as tie
 
 pub finish-spec : {M : Type 1} → statement M
+unfolding lineRoom
 finish-spec =
     tie.close
     (tie.spec
@@ -24,7 +26,7 @@ finish-spec =
     let put = answered .before .before .before .before .before .before in
     let test = put .before .before .before in
     let start = test .before .before .before .before .before .before in
-    last-heard (start .args .s) _ _ _ _ _ (ap (λ (x : List ℕ). take 1 (drop 12 x)) (put .put .ensures .bytes) ∙ put-one (start .args .block .now) 10 (start .pre .1))
+    last-heard (start .args .s) _ _ _ _ _ (ap (λ (x : List ℕ). take 1 (drop lineRoom x)) (put .put .ensures .bytes) ∙ put-one (start .args .block .now) 10 (start .pre .1))
     (answered .answer-from .ensures .1 .1) (test .if1 .taken) (answered .answer-from .ensures .0))
     (λ c. λ κs. search needs)
     (λ c.

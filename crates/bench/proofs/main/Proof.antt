@@ -1,9 +1,12 @@
 -- `bench::main` meets its contract: each turn leaves what the next one asks, and all of them are a talk.
+use Prim.Native.Nat.{_*_}
 use Rattle.bench.specs.Laws.Blocks.{opening-ready}
 use Rattle.bench.specs.Laws.Talk.{going-on}
 use Rattle.bench.specs.Talk.Talk.{begun, more}
-use Rattle.bench.specs.Talk.{Ready, Talks}
+use Rattle.bench.specs.Talk.{blockSize, Ready, Talks}
 use Rattle.part.specs.State.{wiped}
+use Rattle.script.specs.Answer.{answerRoom}
+use Rattle.script.specs.Grammar.{lineRoom}
 use borrow.Author.Needs.{needs}
 use lib.ListN.{length}
 use mathlib.Core.Path.{_≡_, _∙_, sym}
@@ -12,13 +15,13 @@ use Rattle.bench.proofs.main.Statement.{statement}
 use Rattle.bench.proofs.main.Tie as tie
 
 abbrev Inv-loop : tie.InvT-loop
-Inv-loop block₀ out₀ mem₀ seat₀ how₀ turns₀ block out mem seat how turns = (length block ≡ 8192) × (length out ≡ 655360) × Ready seat mem × Talks seat how mem
+Inv-loop block₀ out₀ mem₀ seat₀ how₀ turns₀ block out mem seat how turns = (length block ≡ blockSize) × (length out ≡ answerRoom * blockSize) × Ready seat mem × Talks seat how mem
 
 abbrev μ-loop : tie.MeasureT-loop
 μ-loop block₀ out₀ mem₀ seat₀ how₀ turns₀ block out mem seat how turns = turns
 
 pub main-spec : {M : Type 1} → statement M
-unfolding wiped
+unfolding wiped lineRoom
 main-spec =
     tie.close
     (tie.spec

@@ -1,5 +1,7 @@
 -- `bench::output` meets its contract.
-use Prim.Native.Nat.{ℕ}
+use Prim.Native.Nat.{ℕ, _*_}
+use Rattle.bench.specs.Talk.{blockSize}
+use Rattle.script.specs.Answer.{answerRoom}
 use borrow.Author.Needs.{needs}
 use lib.ListN.{length-replicate}
 use Rattle.bench.proofs.output.Statement.{statement}
@@ -9,4 +11,4 @@ pub output-spec : {M : Type 1} → statement M
 output-spec =
     tie.close
     (tie.spec
-    (λ c. length-replicate {A = ℕ} 655360 0))
+    (λ c. length-replicate {A = ℕ} (answerRoom * blockSize) 0))

@@ -1,6 +1,7 @@
 -- `bench::turn` meets its contract: a read failed, the input has ended, or bytes came.
 use Rattle.bench.specs.Laws.Blocks.{heard-turned, silenced-ready}
 use Rattle.bench.specs.Talk.Turned.{ended, unread}
+use Rattle.script.specs.Grammar.{lineRoom}
 use borrow.Author.Needs.{needs}
 use lib.ListN.{take}
 use mathlib.Core.Path.{ap, refl}
@@ -8,6 +9,7 @@ use Rattle.bench.proofs.turn.Statement.{statement}
 use Rattle.bench.proofs.turn.Tie as tie
 
 pub turn-spec : {M : Type 1} → statement M
+unfolding lineRoom
 turn-spec =
     tie.close
     (tie.spec

@@ -13,14 +13,15 @@ use Rattle.part.specs.declared.state.Part.{Part}
 use Rattle.part.specs.State.{freshPart, wiped}
 use Rattle.part.specs.Step.{Whole}
 use Rattle.part.specs.Laws.Kept.{fresh-part-in-range}
-use Rattle.script.specs.Answer.{Put, textIf, roomy, header}
+use Rattle.script.specs.Answer.{Put, textIf, answerRoom, roomy, header}
+use Rattle.script.specs.Grammar.{lineRoom}
 use Rattle.runner.specs.declared.answering.Course.{Course}
 use Rattle.runner.specs.declared.lines.Start.{Start}
 use Rattle.runner.specs.Lines.{firstLf, noLine, lengthened, keptOf, keptBytes}
 use Rattle.runner.specs.Text.{Desk, Sitting, endedLines, restOf, fed, said, opening}
 use Rattle.runner.specs.Feeding.{deskOf, linesFrom, shortened, Answered}
 use Rattle.runner.specs.Laws.Kept.{after-whole, rest-unended, take-unended, again-fed, again-said, end-said, none-said, put-text}
-use Rattle.runner.specs.Laws.Lines.{kept-first, put-before, put-stays}
+use Rattle.runner.specs.Laws.Lines.{kept-few, kept-first, put-before, put-stays}
 use Rattle.runner.specs.Laws.Feeding.{put-length}
 use Rattle.bench.specs.declared.Seat.{Seat}
 use Rattle.bench.specs.declared.Bench.{Bench}
@@ -31,8 +32,8 @@ use Rattle.bench.specs.Talk.Turned.{read}
 module _ (s : Seat) (m o block : List ℕ) (r : Course) (n o′ : List ℕ) (line : Start) (ready : Ready s m)
     (w : Answered block (record { part = s .part; step = s .step; from = 0; at = 0 }) m o r n o′)
     (kept : line ≡ lengthened noLine (drop (r .from) block)) where
-  rest : keptBytes line ≡ take 12 (restOf [] block)
-  rest = ap keptBytes kept ∙ kept-first (drop (r .from) block) ∙ ap (take 12) (w .rest)
+  rest : keptBytes line ≡ take lineRoom (restOf [] block)
+  rest = ap keptBytes kept ∙ kept-first (drop (r .from) block) ∙ ap (take lineRoom) (w .rest)
 
   -- what `answer_lines` promises, with what is kept of the last line
   pub block-heard : Heard (bareOf s m) block (record { part = r .part; step = r .step; line = line; at = r .at }) n o′
@@ -45,7 +46,7 @@ module _ (s : Seat) (m o block : List ℕ) (r : Course) (n o′ : List ℕ) (lin
         fits = w .fits;
         ready = record {
           whole = subst (λ (x : Desk). Whole (x .state .part) (x .state .memory)) (sym (w .desk)) (after-whole d (linesFrom block 0) (ready .whole));
-          unended = rw rest (take-unended 12 (restOf [] block) (rest-unended [] block (omega arith)));
+          unended = rw rest (take-unended lineRoom (restOf [] block) (rest-unended [] block (omega arith)));
         };
       }
 
@@ -60,33 +61,32 @@ heard-behind s m l r n o ready w =
       ready = w .ready;
     }
 
--- where they stand in the block: from place 12 on, with what was kept right before
-pub from-heard : (s : Seat) (m block : List ℕ) (n at k : ℕ) (joined : List ℕ) (r : Seat) (m′ o′ : List ℕ) → Ready s m → at ≡ 12 - k
-    → joined ≡ sets block at (take k (s .line .bytes)) → length (take k (s .line .bytes)) ≡ k → k ≡ keptOf (s .line .len) → k ≤ 12 → 12 + n ≤ length block
-    → Heard (bareOf s m) (take (12 + n - at) (drop at joined)) r m′ o′
-    → Heard (sittingOf s m) (take n (drop 12 block)) r m′ o′ × (drop 12 joined ≡ drop 12 block) × Sized (s .line)
+-- where they stand in the block: from place `lineRoom` on, with what was kept right before
+pub from-heard : (s : Seat) (m block : List ℕ) (n at k : ℕ) (joined : List ℕ) (r : Seat) (m′ o′ : List ℕ) → Ready s m → at ≡ lineRoom - k
+    → joined ≡ sets block at (take k (s .line .bytes)) → length (take k (s .line .bytes)) ≡ k → k ≡ keptOf (s .line .len) → k ≤ lineRoom → lineRoom + n ≤ length block
+    → Heard (bareOf s m) (take (lineRoom + n - at) (drop at joined)) r m′ o′
+    → Heard (sittingOf s m) (take n (drop lineRoom block)) r m′ o′ × (drop lineRoom joined ≡ drop lineRoom block) × Sized (s .line)
 from-heard s m block n at k joined r m′ o′ ready a b c d h i w =
     let l = take k (s .line .bytes) in
-    let size : 12 + n - 12 ≡ n = omega arith in
-    let e : take (12 + n - at) (drop at joined) ≡ keptBytes (s .line) ++ take n (drop 12 block) =
-    rw (b, a) (put-before l block k (12 + n) c h (omega arith) i)
-    ∙ ap (λ (x : ℕ). l ++ take x (drop 12 block)) size
-    ∙ ap (λ (x : ℕ). take x (s .line .bytes) ++ take n (drop 12 block)) d in (
-      heard-behind s m (take n (drop 12 block)) r m′ o′ ready (subst (λ (x : List ℕ). Heard (bareOf s m) x r m′ o′) e w),
+    let size : lineRoom + n - lineRoom ≡ n = omega arith in
+    let e : take (lineRoom + n - at) (drop at joined) ≡ keptBytes (s .line) ++ take n (drop lineRoom block) =
+    rw (b, a) (put-before l block k (lineRoom + n) c h (omega arith) i)
+    ∙ ap (λ (x : ℕ). l ++ take x (drop lineRoom block)) size
+    ∙ ap (λ (x : ℕ). take x (s .line .bytes) ++ take n (drop lineRoom block)) d in (
+      heard-behind s m (take n (drop lineRoom block)) r m′ o′ ready (subst (λ (x : List ℕ). Heard (bareOf s m) x r m′ o′) e w),
       rw (b, a) (put-stays l block k c h (omega (arith, i))),
       subst (λ (x : ℕ). length (take x (s .line .bytes)) ≡ x) d c,
     )
 
 -- ---- the end of the input
 kept-some : (line : Start) → Sized line → 0 < line .len → 0 < length (keptBytes line)
-unfolding keptOf
+unfolding lineRoom keptOf
 kept-some line e h =
-    let k : 0 < keptOf (line .len) = pick-holds (λ (x : ℕ). 0 < x) (ltb (line .len) 12) (λ _. h) (λ _. omega arith) in
+    let k : 0 < keptOf (line .len) = pick-holds (λ (x : ℕ). 0 < x) (ltb (line .len) lineRoom) (λ _. h) (λ _. omega arith) in
     omega (arith, e, k)
 
 kept-none : (line : Start) → line .len ≤ 0 → length (keptBytes line) ≡ 0
-unfolding keptOf if_then_else_
-kept-none line h = let e : line .len ≡ 0 = omega (arith, h) in rw e
+kept-none line h = let e : line .len ≡ 0 = omega (arith, h) in rw (e, kept-few 0 (omega arith))
 
 pub last-heard : (s : Seat) (m l : List ℕ) (r : Seat) (n o : List ℕ) → l ≡ 10 ∷ [] → Sized (s .line) → 0 < s .line .len
     → Heard (sittingOf s m) l r n o → Closed (sittingOf s m) r n o
@@ -111,10 +111,10 @@ silent-closed s m r o e h w =
     })
 
 -- ---- the header
-pub header-put : (o : List ℕ) (at : ℕ) (o′ : List ℕ) → 80 ≤ length o → Put o 0 (textIf (roomy (length o) 0) header) at o′ → (at ≤ length o′) × (take at o′ ≡ header)
+pub header-put : (o : List ℕ) (at : ℕ) (o′ : List ℕ) → answerRoom ≤ length o → Put o 0 (textIf (roomy (length o) 0) header) at o′ → (at ≤ length o′) × (take at o′ ≡ header)
 unfolding textIf if_then_else_
 header-put o at o′ h w =
-    let e = le-leb 80 (length o) h in
+    let e = le-leb answerRoom (length o) h in
     let new : Put o 0 header at o′ = rw e at w in
     let n : length header ≡ 28 = refl in
     let z = put-length o 0 header at o′ new in
@@ -122,8 +122,7 @@ header-put o at o′ h w =
     (i, put-text o header at o′ new i)
 
 pub opens : (p : Part) (line : Start) (at : ℕ) → p ≡ freshPart → line ≡ noLine → sittingOf (record { part = p; step = 0; line = line; at = at }) wiped ≡ opening
-unfolding keptOf if_then_else_
-opens p line at e f = rw (e, f)
+opens p line at e f = rw (e, f, kept-few 0 (omega arith))
 
 pub opening-ready : (s : Seat) (m : List ℕ) → sittingOf s m ≡ opening → Ready s m
 unfolding wiped

@@ -5,8 +5,10 @@ use mathlib.Core.List.{List, [], _∷_, _++_, append-nil, append-assoc}
 use mathlib.Core.Path.{_≡_, refl, sym, _∙_, ap}
 use native.Mathlib.Omega.{arith}
 use borrow.Author.Tests.{ltb-true}
+use lib.Seq.{take-nil}
 use Rattle.laws.specs.Cases.{false-not-true}
 use Rattle.script.specs.Answer.{header}
+use Rattle.script.specs.Grammar.{lineRoom}
 use Rattle.runner.specs.Text.{Sitting, fed, said, lastSaid, opening, outputOf, endedLines, restOf, afterAll, repliesTo}
 use Rattle.runner.specs.Feeding.{shortened}
 use Rattle.runner.specs.Laws.Text.{fed-split, said-split}
@@ -55,7 +57,7 @@ Upto s m input output = (sittingOf s m ≡ shortened (fed opening input)) × (ou
 
 upto-none : (s : Seat) (m text : List ℕ) → sittingOf s m ≡ opening → text ≡ header → Upto s m [] text
 unfolding fed said endedLines restOf afterAll repliesTo
-upto-none s m text e h = (e, h ∙ sym (append-nil header))
+upto-none s m text e h = (rw (take-nil {A = ℕ} lineRoom) e, h ∙ sym (append-nil header))
 
 upto-more : (s : Seat) (m input output : List ℕ) (r : Seat) (n came text : List ℕ) → Upto s m input output
     → sittingOf r n ≡ shortened (fed (sittingOf s m) came) → text ≡ said (sittingOf s m) came → Upto r n (input ++ came) (output ++ text)

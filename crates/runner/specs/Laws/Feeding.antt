@@ -20,7 +20,7 @@ use Rattle.part.specs.Rows.{Rows, gathered, Holds}
 use Rattle.part.specs.Step.{Whole}
 use Rattle.part.specs.Laws.Rows.{holds-part}
 use Rattle.script.specs.declared.reading.Line.{Line}
-use Rattle.script.specs.Answer.{Put, textIf, roomy, answerLine}
+use Rattle.script.specs.Answer.{Put, textIf, answerRoom, roomy, answerLine}
 use Rattle.script.specs.Grammar.{lineOf}
 use Rattle.runner.specs.declared.answering.Course.{Course}
 use Rattle.runner.specs.Lines.{firstLf, lineEnd}
@@ -146,13 +146,13 @@ module _ (block : List ℕ) (s₀ : Course) (m₀ o₀ : List ℕ) (h : Heads) (
   room-here g =
       let i = ltb-true end (length block) g in
       let e = end-after block from in
-      le-leb (at + 80) (length o) (omega (arith, i, e, w .here, w .room))
+      le-leb (at + answerRoom) (length o) (omega (arith, i, e, w .here, w .room))
 
   pub going-on : (l : Line) (h′ : Heads) (t′ : Rows) (answer : PartAnswer) (int : Bool) (m′ o′ : List ℕ) (step′ at′ from′ end′ : ℕ)
       → ltb end (length block) ≡ true → l ≡ lineOf (take (end - from) (drop from block))
       → Performs (w .part) m l (record { heads = h′; answer = answer }) t′ m′
       → step′ ≡ numberAfter step → int ≡ interruptOf (gathered h′ t′)
-      → Put o at (textIf (roomy (length o) at) (answerLine step′ answer int)) at′ o′ → at′ ≤ at + 80 → from′ ≡ end + 1 → end′ ≡ lineEnd block from′
+      → Put o at (textIf (roomy (length o) at) (answerLine step′ answer int)) at′ o′ → at′ ≤ at + answerRoom → from′ ≡ end + 1 → end′ ≡ lineEnd block from′
       → Going block s₀ m₀ o₀ h′ t′ m′ o′ step′ from′ at′ end′
   unfolding bytes afterAll repliesTo afterOne replyTo textIf if_then_else_
   going-on l h′ t′ answer int m′ o′ step′ at′ from′ end′ goes read (d, memory) n i put fits f e =

@@ -10,47 +10,48 @@ use lib.Seq.{sets-eq, take-all, take-append-seam}
 use Rattle.laws.specs.Pick.{if_then_else_}
 use Rattle.part.specs.Step.{Whole}
 use Rattle.script.specs.Answer.{Put}
+use Rattle.script.specs.Grammar.{lineRoom}
 use Rattle.runner.specs.Text.{endedLines, restOf, lastLine, Desk, Sitting, afterOne, replyTo, afterAll, repliesTo, fed, said, lastSaid}
 use Rattle.runner.specs.Lines.{firstLf}
 use Rattle.runner.specs.Feeding.{shortened}
 use Rattle.runner.specs.Laws.Feeding.{no-line-ends, all-rest, after-whole-one, put-length}
-use Rattle.runner.specs.Laws.Lines.{read-in-pieces, twelve-more}
+use Rattle.runner.specs.Laws.Lines.{read-in-pieces, first-more}
 use Rattle.runner.specs.Laws.Text.{fed-split, said-split, Alike, same-replies, same-after, alike-reply}
 
-twelve-twice : (l : List ℕ) → take 12 (take 12 l) ≡ take 12 l
-twelve-twice l = let n = length-take 12 l in take-all 12 (take 12 l) (omega (arith, n))
+first-twice : (l : List ℕ) → take lineRoom (take lineRoom l) ≡ take lineRoom l
+first-twice l = let n = length-take lineRoom l in take-all lineRoom (take lineRoom l) (omega (arith, n))
 
-same-rest : (k l rest : List ℕ) → take 12 k ≡ take 12 l → take 12 (restOf k rest) ≡ take 12 (restOf l rest)
+same-rest : (k l rest : List ℕ) → take lineRoom k ≡ take lineRoom l → take lineRoom (restOf k rest) ≡ take lineRoom (restOf l rest)
 unfolding restOf if_then_else_
 same-rest k l [] h = h
-same-rest k l (b ∷ rest) h = cases (eqb b 10) refl (same-rest (k ++ (b ∷ [])) (l ++ (b ∷ [])) rest (twelve-more k l b h))
+same-rest k l (b ∷ rest) h = cases (eqb b 10) refl (same-rest (k ++ (b ∷ [])) (l ++ (b ∷ [])) rest (first-more k l b h))
   where
-    cases : (t : Bool) → eqb b 10 ≡ t → take 12 (restOf (k ++ (b ∷ [])) rest) ≡ take 12 (restOf (l ++ (b ∷ [])) rest)
-        → take 12 (restOf k (b ∷ rest)) ≡ take 12 (restOf l (b ∷ rest))
+    cases : (t : Bool) → eqb b 10 ≡ t → take lineRoom (restOf (k ++ (b ∷ [])) rest) ≡ take lineRoom (restOf (l ++ (b ∷ [])) rest)
+        → take lineRoom (restOf k (b ∷ rest)) ≡ take lineRoom (restOf l (b ∷ rest))
     cases true e i = rw e
     cases false e i = rw e i
 
-alike-twelve : (l : List ℕ) → Alike (take 12 l) l
-alike-twelve l x = read-in-pieces l x
+alike-first : (l : List ℕ) → Alike (take lineRoom l) l
+alike-first l x = read-in-pieces l x
 
 -- ---- WHAT IS KEPT IS ENOUGH
 module _ (s : Sitting) where
   pub shortened-said : (l : List ℕ) → said (shortened s) l ≡ said s l
   unfolding said
-  shortened-said l = same-replies (s .desk) (take 12 (s .line)) (s .line) l (alike-twelve (s .line))
+  shortened-said l = same-replies (s .desk) (take lineRoom (s .line)) (s .line) l (alike-first (s .line))
 
   pub shortened-fed : (l : List ℕ) → shortened (fed (shortened s) l) ≡ shortened (fed s l)
   unfolding fed
   shortened-fed l =
-      rw (same-after (s .desk) (take 12 (s .line)) (s .line) l (alike-twelve (s .line)), same-rest (take 12 (s .line)) (s .line) l (twelve-twice (s .line)))
+      rw (same-after (s .desk) (take lineRoom (s .line)) (s .line) l (alike-first (s .line)), same-rest (take lineRoom (s .line)) (s .line) l (first-twice (s .line)))
 
   pub shortened-last : lastSaid (shortened s) ≡ lastSaid s
-  unfolding lastSaid repliesTo
+  unfolding lineRoom lastSaid repliesTo
   shortened-last = by-line (s .line)
     where
-      by-line : (l : List ℕ) → repliesTo (s .desk) (lastLine (take 12 l)) ≡ repliesTo (s .desk) (lastLine l)
+      by-line : (l : List ℕ) → repliesTo (s .desk) (lastLine (take lineRoom l)) ≡ repliesTo (s .desk) (lastLine l)
       by-line [] = refl
-      by-line (b ∷ l) = ap (λ (t : List ℕ). t ++ []) (alike-reply (s .desk) (take 12 (b ∷ l)) (b ∷ l) (alike-twelve (b ∷ l)))
+      by-line (b ∷ l) = ap (λ (t : List ℕ). t ++ []) (alike-reply (s .desk) (take lineRoom (b ∷ l)) (b ∷ l) (alike-first (b ∷ l)))
 
 -- ---- a line that has begun has no LF
 more-unended : (k : List ℕ) (b : ℕ) → length k ≤ firstLf k → eqb b 10 ≡ false → length (k ++ (b ∷ [])) ≤ firstLf (k ++ (b ∷ []))

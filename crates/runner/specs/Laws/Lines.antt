@@ -8,11 +8,11 @@ use native.Mathlib.Omega.{arith}
 use borrow.Author.Tests.{ltb-true, ltb-false, leb-true, leb-false}
 use lib.Dec.{eqb, leb, ltb}
 use lib.ListN.{length, getD, take, drop, set, length-append, length-drop, length-take, length-set, length-replicate, drop-of-length-le}
-use lib.Seq.{sets, sets-eq, drop-append-seam, drop-cons, drop-drop, length-take-le, take-all, take-append-add, take-append-seam, take-append-le, take-suc-set}
+use lib.Seq.{sets, sets-eq, drop-append-seam, drop-cons, drop-drop, length-take-le, take-all, take-append-add, take-append-seam, take-append-le, take-nil, take-suc-set}
 use Rattle.laws.specs.Pick.{if_then_else_}
 use Rattle.laws.specs.Cases.{pick-holds}
-use Rattle.script.specs.Grammar.{lineOf}
-use Rattle.script.specs.Laws.Grammar.{first-twelve}
+use Rattle.script.specs.Grammar.{lineRoom, lineOf}
+use Rattle.script.specs.Laws.Grammar.{first-bytes}
 use Rattle.runner.specs.declared.lines.Start.{Start}
 use Rattle.runner.specs.Lines.{firstLf, lineEnd, noLine, withByte, lengthened, keptOf, keptBytes}
 
@@ -59,53 +59,53 @@ behind-put k l a h =
     ap (drop a) (sets-eq k l a h ∙ append-assoc (take a l) k (drop (a + length k) l))
     ∙ ap (λ (x : ℕ). drop x (take a l ++ rest)) (sym front) ∙ drop-append-seam (take a l) rest
 
--- n bytes right before place 12
-pub put-before : (k block : List ℕ) (n till : ℕ) → length k ≡ n → n ≤ 12 → 12 ≤ till → till ≤ length block
-    → take (till - (12 - n)) (drop (12 - n) (sets block (12 - n) k)) ≡ k ++ take (till - 12) (drop 12 block)
+-- n bytes right before place `lineRoom`
+pub put-before : (k block : List ℕ) (n till : ℕ) → length k ≡ n → n ≤ lineRoom → lineRoom ≤ till → till ≤ length block
+    → take (till - (lineRoom - n)) (drop (lineRoom - n) (sets block (lineRoom - n) k)) ≡ k ++ take (till - lineRoom) (drop lineRoom block)
 put-before k block n till e h i j =
-    let a = 12 - n in
-    let twelve : a + length k ≡ 12 = omega (arith, e, h) in
-    let behind : drop a (sets block a k) ≡ k ++ drop 12 block =
-    behind-put k block a (omega (arith, twelve, i, j)) ∙ ap (λ (x : ℕ). k ++ drop x block) twelve in
-    let size : till - a ≡ length k + (till - 12) = omega (arith, e, h, i) in
-    ap (take (till - a)) behind ∙ ap (λ (x : ℕ). take x (k ++ drop 12 block)) size ∙ take-append-add k (drop 12 block) (till - 12)
+    let a = lineRoom - n in
+    let seam : a + length k ≡ lineRoom = omega (arith, e, h) in
+    let behind : drop a (sets block a k) ≡ k ++ drop lineRoom block =
+    behind-put k block a (omega (arith, seam, i, j)) ∙ ap (λ (x : ℕ). k ++ drop x block) seam in
+    let size : till - a ≡ length k + (till - lineRoom) = omega (arith, e, h, i) in
+    ap (take (till - a)) behind ∙ ap (λ (x : ℕ). take x (k ++ drop lineRoom block)) size ∙ take-append-add k (drop lineRoom block) (till - lineRoom)
 
--- and those from place 12 on stay
-pub put-stays : (k block : List ℕ) (n : ℕ) → length k ≡ n → n ≤ 12 → 12 ≤ length block → drop 12 (sets block (12 - n) k) ≡ drop 12 block
+-- and those from there on stay
+pub put-stays : (k block : List ℕ) (n : ℕ) → length k ≡ n → n ≤ lineRoom → lineRoom ≤ length block → drop lineRoom (sets block (lineRoom - n) k) ≡ drop lineRoom block
 put-stays k block n e h i =
-    let a = 12 - n in
-    let twelve : a + length k ≡ 12 = omega (arith, e, h) in
-    let t : a + n ≡ 12 = omega (arith, h) in
-    let behind : drop a (sets block a k) ≡ k ++ drop 12 block =
-    behind-put k block a (omega (arith, twelve, i)) ∙ ap (λ (x : ℕ). k ++ drop x block) twelve in
+    let a = lineRoom - n in
+    let seam : a + length k ≡ lineRoom = omega (arith, e, h) in
+    let t : a + n ≡ lineRoom = omega (arith, h) in
+    let behind : drop a (sets block a k) ≡ k ++ drop lineRoom block =
+    behind-put k block a (omega (arith, seam, i)) ∙ ap (λ (x : ℕ). k ++ drop x block) seam in
     ap (λ (x : ℕ). drop x (sets block a k)) (sym t)
     ∙ sym (drop-drop n a (sets block a k))
     ∙ ap (drop n) behind
-    ∙ ap (λ (x : ℕ). drop x (k ++ drop 12 block)) (sym e)
-    ∙ drop-append-seam k (drop 12 block)
+    ∙ ap (λ (x : ℕ). drop x (k ++ drop lineRoom block)) (sym e)
+    ∙ drop-append-seam k (drop lineRoom block)
 
--- one byte at place 12
-pub put-one : (block : List ℕ) (x : ℕ) → 13 ≤ length block → take 1 (drop 12 (sets block 12 (x ∷ []))) ≡ x ∷ []
-put-one block x h = ap (take 1) (behind-put (x ∷ []) block 12 h) ∙ take-append-seam (x ∷ []) (drop 13 block)
+-- one byte there
+pub put-one : (block : List ℕ) (x : ℕ) → lineRoom + 1 ≤ length block → take 1 (drop lineRoom (sets block lineRoom (x ∷ []))) ≡ x ∷ []
+put-one block x h = ap (take 1) (behind-put (x ∷ []) block lineRoom h) ∙ take-append-seam (x ∷ []) (drop (lineRoom + 1) block)
 
--- ---- what is kept of the bytes l: the first twelve
+-- ---- what is kept of the bytes l: the first `lineRoom`
 record Keeps (s : Start) (l : List ℕ) : Type 0 where
-  count : s .len ≡ length (take 12 l)
-  room : length (s .bytes) ≡ 12
-  bytes : take (s .len) (s .bytes) ≡ take 12 l
+  count : s .len ≡ length (take lineRoom l)
+  room : length (s .bytes) ≡ lineRoom
+  bytes : take (s .len) (s .bytes) ≡ take lineRoom l
 
 keeps-none : Keeps noLine []
-keeps-none = record { count = refl; room = length-replicate {A = ℕ} 12 0; bytes = refl }
+keeps-none = record { count = ap length (sym (take-nil lineRoom)); room = length-replicate {A = ℕ} lineRoom 0; bytes = sym (take-nil lineRoom) }
 
 module _ (s : Start) (l : List ℕ) (b : ℕ) (k : Keeps s l) where
   -- a byte that is kept
-  kept-byte : s .len < 12 → Keeps (record { bytes = set (s .bytes) (s .len) b; len = s .len + 1 }) (l ++ (b ∷ []))
+  kept-byte : s .len < lineRoom → Keeps (record { bytes = set (s .bytes) (s .len) b; len = s .len + 1 }) (l ++ (b ∷ []))
   kept-byte h =
-      let n = length-take 12 l in
-      let q : length l < 12 = omega (arith, k .count, n, h) in
-      let whole : take 12 l ≡ l = take-all 12 l (omega arith) in
+      let n = length-take lineRoom l in
+      let q : length l < lineRoom = omega (arith, k .count, n, h) in
+      let whole : take lineRoom l ≡ l = take-all lineRoom l (omega arith) in
       let size : length (l ++ (b ∷ [])) ≡ length l + 1 = length-append l (b ∷ []) in
-      let more : take 12 (l ++ (b ∷ [])) ≡ l ++ (b ∷ []) = take-all 12 (l ++ (b ∷ [])) (omega (arith, size, q)) in
+      let more : take lineRoom (l ++ (b ∷ [])) ≡ l ++ (b ∷ []) = take-all lineRoom (l ++ (b ∷ [])) (omega (arith, size, q)) in
       let at : s .len ≡ length l = k .count ∙ ap length whole in
       let inside : s .len < length (s .bytes) = omega (arith, k .room, h) in
       record {
@@ -118,53 +118,53 @@ module _ (s : Start) (l : List ℕ) (b : ℕ) (k : Keeps s l) where
             ∙ sym more;
       }
 
-  -- a byte past the twelfth
-  past-byte : 12 ≤ s .len → Keeps s (l ++ (b ∷ []))
+  -- a byte past those
+  past-byte : lineRoom ≤ s .len → Keeps s (l ++ (b ∷ []))
   past-byte h =
-      let n = length-take 12 l in
-      let q : 12 ≤ length l = omega (arith, k .count, n, h) in
-      let same : take 12 (l ++ (b ∷ [])) ≡ take 12 l = take-append-le 12 l (b ∷ []) q in
+      let n = length-take lineRoom l in
+      let q : lineRoom ≤ length l = omega (arith, k .count, n, h) in
+      let same : take lineRoom (l ++ (b ∷ [])) ≡ take lineRoom l = take-append-le lineRoom l (b ∷ []) q in
       record { count = k .count ∙ ap length (sym same); room = k .room; bytes = k .bytes ∙ sym same }
 
   with-byte : Keeps (withByte s b) (l ++ (b ∷ []))
   unfolding withByte
-  with-byte = pick-holds (λ (t : Start). Keeps t (l ++ (b ∷ []))) (ltb (s .len) 12) (λ t. kept-byte (ltb-true _ _ t)) (λ t. past-byte (ltb-false _ _ t))
+  with-byte = pick-holds (λ (t : Start). Keeps t (l ++ (b ∷ []))) (ltb (s .len) lineRoom) (λ t. kept-byte (ltb-true _ _ t)) (λ t. past-byte (ltb-false _ _ t))
 
 keeps-more : (s : Start) (l rest : List ℕ) → Keeps s l → Keeps (lengthened s rest) (l ++ rest)
 keeps-more s l [] k = subst (Keeps s) (sym (append-nil l)) k
 keeps-more s l (b ∷ rest) k = subst (Keeps (lengthened s (b ∷ rest))) (append-assoc l (b ∷ []) rest) (keeps-more (withByte s b) (l ++ (b ∷ [])) rest (with-byte s l b k))
 
-kept-few : (n : ℕ) → n ≤ 12 → keptOf n ≡ n
+pub kept-few : (n : ℕ) → n ≤ lineRoom → keptOf n ≡ n
 unfolding keptOf
-kept-few n h = pick-holds (λ (x : ℕ). x ≡ n) (ltb n 12) (λ _. refl) (λ t. let g = ltb-false n 12 t in omega arith)
+kept-few n h = pick-holds (λ (x : ℕ). x ≡ n) (ltb n lineRoom) (λ _. refl) (λ t. let g = ltb-false n lineRoom t in omega arith)
 
--- of a line's first twelve bytes and what follows, the first twelve are those of the line
-twelve-and : (a b : List ℕ) (w : Bool) → leb 12 (length a) ≡ w → take 12 (take 12 a ++ b) ≡ take 12 (a ++ b)
-twelve-and a b true e =
-    let h = leb-true 12 (length a) e in
-    let n : length (take 12 a) ≡ 12 = length-take 12 a ∙ omega arith in
-    take-append-le 12 (take 12 a) b (omega (arith, n)) ∙ take-all 12 (take 12 a) (omega (arith, n)) ∙ sym (take-append-le 12 a b h)
-twelve-and a b false e = let h = leb-false 12 (length a) e in ap (λ (x : List ℕ). take 12 (x ++ b)) (take-all 12 a (omega arith))
+-- of a line's first bytes and what follows, the first are those of the line
+first-and : (a b : List ℕ) (w : Bool) → leb lineRoom (length a) ≡ w → take lineRoom (take lineRoom a ++ b) ≡ take lineRoom (a ++ b)
+first-and a b true e =
+    let h = leb-true lineRoom (length a) e in
+    let n : length (take lineRoom a) ≡ lineRoom = length-take lineRoom a ∙ omega arith in
+    take-append-le lineRoom (take lineRoom a) b (omega (arith, n)) ∙ take-all lineRoom (take lineRoom a) (omega (arith, n)) ∙ sym (take-append-le lineRoom a b h)
+first-and a b false e = let h = leb-false lineRoom (length a) e in ap (λ (x : List ℕ). take lineRoom (x ++ b)) (take-all lineRoom a (omega arith))
 
--- of a line so many bytes are kept as are there, 12 at most, and they are its first
-pub kept-first : (a : List ℕ) → keptBytes (lengthened noLine a) ≡ take 12 a
+-- of a line so many bytes are kept as are there, `lineRoom` at most, and they are its first
+pub kept-first : (a : List ℕ) → keptBytes (lengthened noLine a) ≡ take lineRoom a
 kept-first a =
     let s = lengthened noLine a in
     let k = keeps-more noLine [] a keeps-none in
-    let n = length-take 12 a in
+    let n = length-take lineRoom a in
     let e : keptOf (s .len) ≡ s .len = kept-few (s .len) (omega (arith, k .count, n)) in
     ap (λ (j : ℕ). take j (s .bytes)) e ∙ k .bytes
 
--- A LINE IN TWO PIECES: the first twelve bytes of the first, with the second behind it, are read as the whole line
-pub read-in-pieces : (a b : List ℕ) → lineOf (take 12 a ++ b) ≡ lineOf (a ++ b)
+-- A LINE IN TWO PIECES: the first `lineRoom` bytes of the first, with the second behind it, are read as the whole line
+pub read-in-pieces : (a b : List ℕ) → lineOf (take lineRoom a ++ b) ≡ lineOf (a ++ b)
 read-in-pieces a b =
-    sym (first-twelve (take 12 a ++ b))
-    ∙ ap lineOf (twelve-and a b (leb 12 (length a)) refl)
-    ∙ first-twelve (a ++ b)
+    sym (first-bytes (take lineRoom a ++ b))
+    ∙ ap lineOf (first-and a b (leb lineRoom (length a)) refl)
+    ∙ first-bytes (a ++ b)
 
--- two lines with the same first twelve bytes have them with one more
-pub twelve-more : (k l : List ℕ) (b : ℕ) → take 12 k ≡ take 12 l → take 12 (k ++ (b ∷ [])) ≡ take 12 (l ++ (b ∷ []))
-twelve-more k l b h =
-    sym (twelve-and k (b ∷ []) (leb 12 (length k)) refl)
-    ∙ ap (λ (t : List ℕ). take 12 (t ++ (b ∷ []))) h
-    ∙ twelve-and l (b ∷ []) (leb 12 (length l)) refl
+-- two lines with the same first bytes have them with one more
+pub first-more : (k l : List ℕ) (b : ℕ) → take lineRoom k ≡ take lineRoom l → take lineRoom (k ++ (b ∷ [])) ≡ take lineRoom (l ++ (b ∷ []))
+first-more k l b h =
+    sym (first-and k (b ∷ []) (leb lineRoom (length k)) refl)
+    ∙ ap (λ (t : List ℕ). take lineRoom (t ++ (b ∷ []))) h
+    ∙ first-and l (b ∷ []) (leb lineRoom (length l)) refl

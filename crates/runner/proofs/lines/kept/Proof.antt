@@ -1,5 +1,6 @@
 -- `runner::lines::kept` meets its contract.
 use Rattle.runner.specs.Lines.{keptOf}
+use Rattle.script.specs.Grammar.{lineRoom}
 use Rattle.laws.specs.Cases.{pick-false, pick-true}
 use borrow.Author.Needs.{needs}
 use borrow.Author.Tests.{le-ltb, lt-ltb}
@@ -8,7 +9,7 @@ use Rattle.runner.proofs.lines.kept.Statement.{statement}
 use Rattle.runner.proofs.lines.kept.Tie as tie
 
 pub kept-spec : {M : Type 1} → statement M
-unfolding keptOf
+unfolding lineRoom keptOf
 kept-spec =
     tie.close
     (tie.spec

@@ -1,4 +1,5 @@
 -- `runner::lines::put_start` meets its contract.
+use Rattle.script.specs.Grammar.{lineRoom}
 use borrow.Author.Needs.{needs}
 use lib.ListN.{length}
 use lib.Seq.{length-sets, length-take-le}
@@ -8,6 +9,7 @@ use Rattle.runner.proofs.lines.put_start.Statement.{statement}
 use Rattle.runner.proofs.lines.put_start.Tie as tie
 
 pub put-start-spec : {M : Type 1} → statement M
+unfolding lineRoom
 put-start-spec =
     tie.close
     (tie.spec

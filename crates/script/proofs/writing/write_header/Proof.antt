@@ -1,6 +1,7 @@
 -- `script::writing::write_header` meets its contract.
 use Prim.Native.Nat.{_≤_, _+_}
 use Rattle.script.proofs.Laws.Writing.{puts, room-is}
+use Rattle.script.specs.Answer.{answerRoom}
 use borrow.Author.Needs.{needs}
 use lib.ListN.{length}
 use native.Mathlib.Omega.{arith}
@@ -12,7 +13,7 @@ put-requires c κs =
     let test = c .before .before in
     let room = test .before in
     let a = room .before .before .args in
-    let h : a .at + 80 ≤ length (a .out .now) = room-is _ _ _ (room .has-room .ensures) (test .if1 .taken) in
+    let h : a .at + answerRoom ≤ length (a .out .now) = room-is _ _ _ (room .has-room .ensures) (test .if1 .taken) in
     omega arith
 
 pub write-header-spec : {M : Type 1} → statement M
