@@ -176,20 +176,22 @@ fn goes_on(turns: u64, how: How) -> bool
     }
 }
 
-fn complain(text: &[u8]) {
-    io::write_all(STDERR_FILENO, text);
+// Says what failed, and after which step.
+fn complain(what: &[u8], step: u64) {
+    io::write_all(STDERR_FILENO, what);
+    io::print_decimal(STDERR_FILENO, step);
+    io::write_all(STDERR_FILENO, b"\n");
 }
 
-// A program has no exit status, so a failure is said on standard error.
-fn report(how: How) {
+// A program has no exit status, so a failure is said on standard error. The answers up to the step are written.
+fn report(how: How, step: u64) {
     match how {
         How::On => (),
         How::Ended => (),
-        How::Unread => complain(
-            b"bench: a read of standard input failed; what follows in it is not answered\n",
-        ),
+        How::Unread => complain(b"bench: standard input could not be read after step ", step),
         How::Unwritten => complain(
-            b"bench: a write to standard output failed; the output is not whole\n",
+            b"bench: standard output could not be written after step ",
+            step,
         ),
     }
 }
@@ -213,8 +215,11 @@ fn main() {
     let first = begin(&mut out);
     let mut seat = first.seat;
     let mut how = first.how;
+    // the last step before the turn: its answer is written
+    let mut safe = 0;
     let mut turns = u64::MAX;
     while goes_on(turns, how) {
+        safe = seat.step;
         let b = turn(seat, &mut block, &mut mem, &mut out);
         let next = b.seat;
         seat = next;
@@ -222,5 +227,5 @@ fn main() {
         how = then;
         turns -= 1;
     }
-    report(how);
+    report(how, safe);
 }
