@@ -33,6 +33,9 @@ pub record Rows : Type 0 where
   pub counts : List (List ℕ)
   pub stored : List (List ℕ)
 
+abbrev pub asRows : List (List ℕ) → List (List ℕ) → List (List ℕ) → List (List ℕ) → List (List ℕ) → Rows
+asRows sla lens status counts settings = record { slas = sla; lengths = lens; statuses = status; counts = counts; stored = settings }
+
 -- three rows of each
 pub record Three (t : Rows) : Type 0 where
   pub slas : length (t .slas) ≡ 3
@@ -94,8 +97,7 @@ Table = RefT (List (List ℕ))
 
 -- what stands in them, for a `requires`
 abbrev pub rowsIn : Table → Table → Table → Table → Table → Rows
-rowsIn sla lens status counts settings =
-    record { slas = now sla; lengths = now lens; statuses = now status; counts = now counts; stored = now settings }
+rowsIn sla lens status counts settings = asRows (now sla) (now lens) (now status) (now counts) (now settings)
 
 abbrev pub Lent : Type 0
 Lent = Both Table Table

@@ -29,6 +29,9 @@ abbrev pub lastLine : List ℕ → List (List ℕ)
 lastLine [] = []
 lastLine (b ∷ l) = (b ∷ l) ∷ []
 
+abbrev pub linesOf : List ℕ → List (List ℕ)
+linesOf input = endedLines [] input ++ lastLine (restOf [] input)
+
 -- ---- the lines done in turn
 
 -- the number of the next step, which stays at the largest one
@@ -55,7 +58,14 @@ unfoldable pub repliesTo : Desk → List (List ℕ) → List ℕ
 repliesTo d [] = []
 repliesTo d (l ∷ k) = replyTo d l ++ repliesTo (afterOne d l) k
 
--- ---- bytes that come in pieces: where a script stands between two of them
+-- ---- THE OUTPUT of a script: the header, and a line for each of its lines, from the part after a reset
+abbrev pub reset : Desk
+reset = record { state = record { part = freshPart; memory = wiped }; step = 0 }
+
+unfoldable pub outputOf : List ℕ → List ℕ
+outputOf input = header ++ repliesTo reset (linesOf input)
+
+-- ---- bytes that come in pieces: where a script stands between two of them. Cut anywhere, the input comes to the same (`output-in-two`, Laws/Text.antt)
 pub record Sitting : Type 0 where
   pub desk : Desk
   pub line : List ℕ
@@ -71,9 +81,6 @@ said s l = repliesTo (s .desk) (endedLines (s .line) l)
 unfoldable pub lastSaid : Sitting → List ℕ
 lastSaid s = repliesTo (s .desk) (lastLine (s .line))
 
--- ---- THE OUTPUT of a script: the header, and a line for each of its lines, from the part after a reset
+-- the start
 abbrev pub opening : Sitting
-opening = record { desk = record { state = record { part = freshPart; memory = wiped }; step = 0 }; line = [] }
-
-unfoldable pub outputOf : List ℕ → List ℕ
-outputOf input = header ++ (said opening input ++ lastSaid (fed opening input))
+opening = record { desk = reset; line = [] }

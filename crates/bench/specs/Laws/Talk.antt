@@ -11,7 +11,7 @@ use Rattle.script.specs.Answer.{header}
 use Rattle.script.specs.Grammar.{lineRoom}
 use Rattle.runner.specs.Text.{Sitting, fed, said, lastSaid, opening, outputOf, endedLines, restOf, afterAll, repliesTo}
 use Rattle.runner.specs.Feeding.{shortened}
-use Rattle.runner.specs.Laws.Text.{fed-split, said-split}
+use Rattle.runner.specs.Laws.Text.{fed-split, said-split, output-said}
 use Rattle.runner.specs.Laws.Kept.{shortened-said, shortened-fed, shortened-last}
 use Rattle.bench.specs.declared.Bench.{Bench}
 use Rattle.bench.specs.declared.Seat.{Seat}
@@ -85,7 +85,6 @@ not-written f how next want a b c (lost x) g = apart f how Unwritten want b c x 
 
 -- ---- THE OUTPUT: once the input has ended, what was handed to `write` is the output of what was read
 pub talk-output : {s : Seat} {how : How} {m input output : List ℕ} → Talk s how m input output → how ≡ Ended → output ≡ outputOf input
-unfolding outputOf
 talk-output (begun b m text w) g = not-written isEnded (b .how) On Ended refl refl refl (w .written) g
 talk-output (more s how m i o b n came text t go (read w e h)) g = not-written isEnded (b .how) On Ended refl refl refl w g
 talk-output (more s how m i o b n came text t go (unread w e h)) g = apart isEnded (b .how) Unread Ended refl refl w g
@@ -94,6 +93,7 @@ talk-output (more s how m i o b n came text t go (ended w e h)) g =
     ap (λ (x : List ℕ). x ++ text) (u .1)
     ∙ ap (λ (x : List ℕ). (header ++ said opening i) ++ x) (h ∙ ap lastSaid (u .0) ∙ shortened-last (fed opening i))
     ∙ append-assoc header (said opening i) (lastSaid (fed opening i))
+    ∙ sym (output-said i)
     ∙ ap outputOf (sym (append-nil i) ∙ ap (λ (x : List ℕ). i ++ x) (sym e))
 
 -- where a read failed, it is as much of the output as belongs to the lines that were read

@@ -84,10 +84,6 @@ after-whole-one d l w = performed-whole (d .state .part) (d .state .memory) (lin
 
 -- ---- the loop
 
--- five arrays as rows
-abbrev pub asRows : List (List ℕ) → List (List ℕ) → List (List ℕ) → List (List ℕ) → List (List ℕ) → Rows
-asRows sla lens status counts settings = record { slas = sla; lengths = lens; statuses = status; counts = counts; stored = settings }
-
 pub put-length : (l : List ℕ) (at : ℕ) (text : List ℕ) (r : ℕ) (m : List ℕ) → Put l at text r m → length m ≡ length l
 put-length l at text r m w = ap length (w .bytes) ∙ length-sets l at text
 

@@ -3,13 +3,14 @@ use Prim.Native.Nat.{ℕ}
 use mathlib.Core.Bool.{Bool, true, false}
 use mathlib.Core.List.{List, [], _∷_, _++_, map, append-assoc, append-nil}
 use Rattle.mixes.specs.Mix.{ends}
+use Rattle.script.specs.Answer.{header}
 use Rattle.script.specs.Grammar.{lineOf}
 use Rattle.script.specs.declared.reading.Line.{Line}
 use Rattle.runner.specs.Run.{theRunner, afterLine}
 use mathlib.Core.Path.{_≡_, refl, sym, _∙_, ap}
 use lib.Dec.{eqb}
 use Rattle.laws.specs.Pick.{if_then_else_}
-use Rattle.runner.specs.Text.{endedLines, restOf, Desk, afterOne, replyTo, afterAll, repliesTo, Sitting, fed, said, numberAfter}
+use Rattle.runner.specs.Text.{endedLines, restOf, Desk, afterOne, replyTo, afterAll, repliesTo, Sitting, fed, said, numberAfter, lastLine, reset, outputOf, lastSaid, opening}
 
 -- ---- lines
 ended-split : (line a b : List ℕ) → endedLines line (a ++ b) ≡ endedLines line a ++ endedLines (restOf line a) b
@@ -55,6 +56,14 @@ pub said-split : (s : Sitting) (a b : List ℕ) → said s (a ++ b) ≡ said s a
 unfolding fed said
 said-split s a b =
     ap (repliesTo (s .desk)) (ended-split (s .line) a b) ∙ replies-split (s .desk) (endedLines (s .line) a) (endedLines (restOf (s .line) a) b)
+
+-- THE OUTPUT of all that was fed, and of an input in two pieces, cut anywhere
+pub output-said : (input : List ℕ) → outputOf input ≡ header ++ (said opening input ++ lastSaid (fed opening input))
+unfolding outputOf fed said lastSaid
+output-said input = ap (λ (t : List ℕ). header ++ t) (replies-split reset (endedLines [] input) (lastLine (restOf [] input)))
+
+pub output-in-two : (a b : List ℕ) → let s = fed opening a in outputOf (a ++ b) ≡ header ++ ((said opening a ++ said s b) ++ lastSaid (fed s b))
+output-in-two a b = output-said (a ++ b) ∙ rw (said-split opening a b, fed-split opening a b)
 
 -- ---- what is kept of a line: two starts that every end is read alike behind do the same
 abbrev pub Alike : List ℕ → List ℕ → Type 0

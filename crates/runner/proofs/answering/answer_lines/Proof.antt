@@ -9,10 +9,10 @@ use lib.Dec.{ltb}
 use lib.ListN.{length}
 use borrow.Author.Needs.{needs}
 use borrow.Author.Tests.{ltb-true}
-use Rattle.part.specs.Rows.{gathered, Holds}
+use Rattle.part.specs.Rows.{asRows, gathered}
 use Rattle.part.specs.Laws.Rows.{holds-one-ready, holds-part, holds-ready}
 use Rattle.runner.specs.declared.answering.Course.{Course}
-use Rattle.runner.specs.Laws.Feeding.{asRows, Going, going-done, going-on, put-length}
+use Rattle.runner.specs.Laws.Feeding.{Going, going-done, going-on, put-length}
 use Rattle.runner.specs.Laws.Lines.{end-after, end-in}
 use Rattle.runner.specs.Laws.Performing.{Performs, line-all, line-one, line-unread}
 use Rattle.runner.proofs.answering.answer_lines.Statement.{statement}
