@@ -1,4 +1,4 @@
--- What a line of the script does: the run of demand 3 (crate independent, `thePart`), with an answer to what can't be read.
+-- What a line of the script does: a step of the part, by the rules of demand 3's run (crate independent, `thePart`), with an answer to what can't be read.
 use Prim.Native.Nat.{ℕ}
 use mathlib.Core.List.{List}
 use Rattle.mixes.specs.Mix.{Machine}
@@ -8,6 +8,7 @@ use Rattle.independent.specs.Statement.{State, thePart}
 use Rattle.script.specs.declared.reading.Line.{Line}
 use Rattle.script.specs.declared.reading.Line.the-variants.{Readable, Unreadable}
 use Rattle.script.specs.Answer.{noAnswer}
+use Rattle.script.specs.Grammar.{lineOf}
 
 -- the state of a part and a memory
 abbrev pub start : Part → List ℕ → State
@@ -28,6 +29,10 @@ abbrev pub ownerOfLine : Line → ℕ
 ownerOfLine (Readable a) = thePart .owner a
 ownerOfLine Unreadable = 3
 
--- the machine of a run: the part, with an answer to what can't be read
-abbrev pub theRunner : Machine State Line PartAnswer
-theRunner = record { answer = answered; after = afterLine; owner = ownerOfLine }
+-- the script as a machine: a step is the bytes of a line
+abbrev pub theScript : Machine State (List ℕ) PartAnswer
+theScript = record {
+  answer = λ s l. answered s (lineOf l);
+  after = λ s l. afterLine s (lineOf l);
+  owner = λ l. ownerOfLine (lineOf l);
+}

@@ -1,40 +1,29 @@
--- DEMAND 3, of script lines: lines that mix three channels' lists, against list 0, then 1, then 2. Numbers of steps and INT after a single line depend on the order;
--- the answers, the part and its memory do not.
-use Prim.Native.Nat.{ℕ}
-use mathlib.Core.List.{List, _++_, map}
-use mathlib.Core.Path.{_≡_, sym, _∙_, ap}
-use Rattle.mixes.specs.Mix.{Mix, All, ends, log, only}
-use Rattle.part.specs.declared.map.Step.{Step}
-use Rattle.part.specs.Registers.{interruptOf}
-use Rattle.independent.specs.Statement.{State, Accepted, OfChannel, thePart}
-use Rattle.independent.specs.Theorem.{independent}
-use Rattle.script.specs.declared.reading.Line.the-variants.{Readable}
-use Rattle.script.specs.Grammar.{lineOf}
-use Rattle.runner.specs.Run.{theRunner}
-use Rattle.runner.specs.Text.{Desk, afterAll}
-use Rattle.runner.specs.Laws.Run.{readable-ends}
-use Rattle.runner.specs.Laws.Text.{desk-ends}
+-- DEMAND 3, of script lines: any mix of three channels' lines, against list 0, then 1, then 2; and so any lines of channels, in any order. `Independent` says it
+-- of the state, of INT at the end, and of each line's answer. Numbers of steps and INT after a single line depend on the order.
+use Prim.Native.Nat.{ℕ, _<_}
+use mathlib.Core.List.{List, [], _∷_}
+use mathlib.Core.Path.{_≡_, refl}
+use Rattle.mixes.specs.Mix.{Mix, All, OfSome, stepsOf, ends}
+use Rattle.independent.specs.Statement.{State, Accepted, Independent}
+use Rattle.independent.specs.Laws.Mixed.{mixed, any-order}
+use Rattle.runner.specs.Run.{theScript}
+use Rattle.runner.specs.Text.{Desk, afterAll, afterOne}
+use Rattle.runner.specs.Laws.Run.{script-apart}
 
--- the lines m ask for x, a mix of the steps k, l and n, and the lines m′ for k, then l, then n
-pub record MixedLines (d : Desk) (m m′ : List (List ℕ)) (k l n x : List Step) : Type 0 where
-  pub accepted : Accepted (d .state)
-  pub mix : Mix Step k l n x
-  pub mixed : map lineOf m ≡ map Readable x
-  pub inTurn : map lineOf m′ ≡ map Readable (k ++ (l ++ n))
-  pub ofZero : All (OfChannel 0) k
-  pub ofOne : All (OfChannel 1) l
-  pub ofTwo : All (OfChannel 2) n
+-- a line of channel c: it can be read, and its step is channel c's
+abbrev pub LineOf : ℕ → List ℕ → Type 0
+LineOf c l = theScript .owner l ≡ c
 
-pub record SameEnds (d : Desk) (m m′ : List (List ℕ)) (k l n x : List Step) : Type 0 where
-  pub state : afterAll d m .state ≡ afterAll d m′ .state
-  pub level : interruptOf (afterAll d m .state .part) ≡ interruptOf (afterAll d m′ .state .part)
-  pub answers : (c : ℕ) → only thePart c (log thePart (d .state) x) ≡ only thePart c (log thePart (d .state) (k ++ (l ++ n)))
+pub mixed-lines : (s : State) → Accepted s → (k l n m : List (List ℕ)) → Mix (List ℕ) k l n m
+    → All (LineOf 0) k → All (LineOf 1) l → All (LineOf 2) n → Independent theScript s k l n m
+mixed-lines = mixed theScript script-apart LineOf (λ c l h e. e)
 
-pub mixed-lines : (d : Desk) (m m′ : List (List ℕ)) (k l n x : List Step) → MixedLines d m m′ k l n x → SameEnds d m m′ k l n x
-mixed-lines d m m′ k l n x h =
-    let s = d .state in
-    let i = independent s (h .accepted) k l n x (h .mix) (h .ofZero) (h .ofOne) (h .ofTwo) in
-    let a = desk-ends d m ∙ ap (ends theRunner s) (h .mixed) ∙ readable-ends s x in
-    let b = desk-ends d m′ ∙ ap (ends theRunner s) (h .inTurn) ∙ readable-ends s (k ++ (l ++ n)) in
-    let e = a ∙ i .state ∙ sym b in
-    record { state = e; level = ap (λ (t : State). interruptOf (t .part)) e; answers = i .answers }
+pub lines-in-any-order : (s : State) → Accepted s → (m : List (List ℕ)) → All (OfSome theScript) m
+    → Independent theScript s (stepsOf theScript 0 m) (stepsOf theScript 1 m) (stepsOf theScript 2 m) m
+lines-in-any-order = any-order theScript script-apart
+
+-- this run is the one that the script's text goes by (`repliesTo`, `outputOf`)
+pub same-run : (d : Desk) (m : List (List ℕ)) → afterAll d m .state ≡ ends theScript (d .state) m
+unfolding afterAll afterOne
+same-run d [] = refl
+same-run d (l ∷ m) = same-run (afterOne d l) m

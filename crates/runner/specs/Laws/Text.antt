@@ -1,12 +1,11 @@
 -- The input may come in any pieces: where a script stands, and what it says, is the same.
 use Prim.Native.Nat.{ℕ}
 use mathlib.Core.Bool.{Bool, true, false}
-use mathlib.Core.List.{List, [], _∷_, _++_, map, append-assoc, append-nil}
-use Rattle.mixes.specs.Mix.{ends}
+use mathlib.Core.List.{List, [], _∷_, _++_, append-assoc, append-nil}
 use Rattle.script.specs.Answer.{header}
 use Rattle.script.specs.Grammar.{lineOf}
 use Rattle.script.specs.declared.reading.Line.{Line}
-use Rattle.runner.specs.Run.{theRunner, afterLine}
+use Rattle.runner.specs.Run.{afterLine}
 use mathlib.Core.Path.{_≡_, refl, sym, _∙_, ap}
 use lib.Dec.{eqb}
 use Rattle.laws.specs.Pick.{if_then_else_}
@@ -98,9 +97,3 @@ same-after d k l (b ∷ rest) h = cases (eqb b 10) refl (same-after d (k ++ (b �
         → afterAll d (endedLines k (b ∷ rest)) ≡ afterAll d (endedLines l (b ∷ rest))
     cases true e i = rw e (ap (λ (t : Line). afterAll (record { state = afterLine (d .state) t; step = numberAfter (d .step) }) (endedLines [] rest)) (alike-line k l h))
     cases false e i = rw e i
-
--- ---- the state after lines is that of demand 3's run
-pub desk-ends : (d : Desk) (k : List (List ℕ)) → afterAll d k .state ≡ ends theRunner (d .state) (map lineOf k)
-unfolding afterAll afterOne
-desk-ends d [] = refl
-desk-ends d (l ∷ k) = desk-ends (afterOne d l) k
