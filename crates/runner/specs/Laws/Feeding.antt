@@ -24,11 +24,10 @@ use Rattle.script.specs.Answer.{Put, textIf, answerRoom, roomy, answerLine}
 use Rattle.script.specs.Grammar.{lineOf}
 use Rattle.runner.specs.declared.answering.Course.{Course}
 use Rattle.runner.specs.Lines.{firstLf, lineEnd}
-use Rattle.runner.specs.Performing.{performed}
 use Rattle.runner.specs.Text.{Desk, endedLines, restOf, afterOne, replyTo, afterAll, repliesTo, numberAfter}
 use Rattle.runner.specs.Feeding.{deskOf, linesFrom, Room, Answered}
 use Rattle.runner.specs.Laws.Lines.{end-after, end-in}
-use Rattle.runner.specs.Laws.Performing.{Performs, performed-whole}
+use Rattle.runner.specs.Laws.Performing.{Performs, performed, performed-whole}
 
 -- ---- the next line of some bytes
 next-line : (line l : List ℕ) → firstLf l < length l → endedLines line l ≡ (line ++ take (firstLf l) l) ∷ endedLines [] (drop (firstLf l + 1) l)

@@ -14,7 +14,7 @@ use Rattle.part.specs.Laws.Rows.{holds-one-ready, holds-part, holds-ready}
 use Rattle.runner.specs.declared.answering.Course.{Course}
 use Rattle.runner.specs.Laws.Feeding.{Going, going-done, going-on, put-length}
 use Rattle.runner.specs.Laws.Lines.{end-after, end-in}
-use Rattle.runner.specs.Laws.Performing.{Performs, line-all, line-one, line-unread}
+use Rattle.runner.specs.Laws.Performing.{Performs, line-one, line-rest}
 use Rattle.runner.proofs.answering.answer_lines.Statement.{statement}
 use Rattle.runner.proofs.answering.answer_lines.Tie as tie
 
@@ -85,75 +85,75 @@ part-read-line-end c =
 mul-h : tie.Need-mul-h Inv-loop μ-loop
 mul-h c =
     let arm = c .before in
-    let target = arm .before .before in
-    let below : arm .t .given .0 .1 .0 < 3 = rw (arm .t .given .1) at (target .target-of .ensures .1) in
+    let aim = arm .before .before .before in
+    let below : arm .a .given .0 .1 .0 < 3 = rw (arm .a .given .1) at (aim .aim-of .ensures .1) in
     search needs
 
 element-copy-out-h : tie.Need-element-copy-out-h Inv-loop μ-loop
 element-copy-out-h c =
     let arm = c .before in
-    let target = arm .before .before in
-    let turn = target .before .before .before .before .before .before .before .before .before in
-    let below : arm .t .given .0 .1 .0 < 3 = rw (arm .t .given .1) at (target .target-of .ensures .1) in
+    let aim = arm .before .before .before in
+    let turn = aim .before .before .before .before .before in
+    let below : arm .a .given .0 .1 .0 < 3 = rw (arm .a .given .1) at (aim .aim-of .ensures .1) in
     let heads = holds-ready _ _ _ (turn .loop .inv .1 .holds) _ (turn .loop .inv .1 .whole) .heads in
     search needs
 
 mul-g : tie.Need-mul-g Inv-loop μ-loop
 mul-g c =
     let arm = c .before .before .before .before .before .before .before .before .before .before .before .before .before in
-    let target = arm .before .before in
-    let below : arm .t .given .0 .1 .0 < 3 = rw (arm .t .given .1) at (target .target-of .ensures .1) in
+    let aim = arm .before .before .before in
+    let below : arm .a .given .0 .1 .0 < 3 = rw (arm .a .given .1) at (aim .aim-of .ensures .1) in
     search needs
 
 element-set-from-g : tie.Need-element-set-from-g Inv-loop μ-loop
 element-set-from-g c =
     let arm = c .before .before .before .before .before .before .before .before .before .before .before .before .before in
-    let target = arm .before .before in
-    let turn = target .before .before .before .before .before .before .before .before .before in
-    let below : arm .t .given .0 .1 .0 < 3 = rw (arm .t .given .1) at (target .target-of .ensures .1) in
+    let aim = arm .before .before .before in
+    let turn = aim .before .before .before .before .before in
+    let below : arm .a .given .0 .1 .0 < 3 = rw (arm .a .given .1) at (aim .aim-of .ensures .1) in
     let heads = holds-ready _ _ _ (turn .loop .inv .1 .holds) _ (turn .loop .inv .1 .whole) .heads in
     search needs
 
 one-requires : tie.Need-one-requires Inv-loop μ-loop
 one-requires c κs =
     let arm = c .before .before .before .before .before .before .before .before .before in
-    let target = arm .before .before in
-    let turn = target .before .before .before .before .before .before .before .before .before in
-    let below : arm .t .given .0 .1 .0 < 3 = rw (arm .t .given .1) at (target .target-of .ensures .1) in
+    let aim = arm .before .before .before in
+    let turn = aim .before .before .before .before .before in
+    let below : arm .a .given .0 .1 .0 < 3 = rw (arm .a .given .1) at (aim .aim-of .ensures .1) in
     let g = turn .loop .inv .1 in
     holds-one-ready (g .part) (turn .loop .heads) (asRows (turn .loop .sla) (turn .loop .lens) (turn .loop .status) (turn .loop .counts) (turn .loop .settings)) (g .holds) _ (g .whole) _ below
 
-all-requires : tie.Need-all-requires Inv-loop μ-loop
-all-requires c κs =
-    let turn = c .before .before .before .before .before .before .before .before .before .before .before .before .before .before .before .before .before .before in
+perform-requires : tie.Need-perform-requires Inv-loop μ-loop
+perform-requires c κs =
+    let turn = c .before .before .before .before .before .before .before .before .before .before .before .before .before .before .before in
     let g = turn .loop .inv .1 in
     holds-ready (g .part) (turn .loop .heads) (asRows (turn .loop .sla) (turn .loop .lens) (turn .loop .status) (turn .loop .counts) (turn .loop .settings)) (g .holds) _ (g .whole)
 
 -- ---- there is a next place
 add-from : tie.Need-add-from Inv-loop μ-loop
 add-from c =
-    let test = c .before .before .before .before .before .before .before .before .before .before in
+    let test = c .before .before .before .before .before .before .before .before .before .before .before in
     let turn = test .before .before in
     let start = turn .before .before .before .before .before .before .before .before .before .before .before .before in
-    let t : ltb (turn .loop .end) (length (start .args .block .now)) ≡ true = sym (test .before .has-room .ensures) ∙ test .if1 .taken in
+    let t : ltb (turn .loop .end) (length (start .args .block .now)) ≡ true = sym (test .before .has-lf .ensures) ∙ test .if1 .taken in
     let b = ltb-true (turn .loop .end) (length (start .args .block .now)) t in
     omega (arith, b, start .good .1 .0)
 
 line-end-requires-2 : tie.Need-line-end-requires-2 Inv-loop μ-loop
 line-end-requires-2 c κs =
-    let test = c .before .before .before .before .before .before .before .before .before .before in
+    let test = c .before .before .before .before .before .before .before .before .before .before .before in
     let turn = test .before .before in
     let start = turn .before .before .before .before .before .before .before .before .before .before .before .before in
-    let t : ltb (turn .loop .end) (length (start .args .block .now)) ≡ true = sym (test .before .has-room .ensures) ∙ test .if1 .taken in
+    let t : ltb (turn .loop .end) (length (start .args .block .now)) ≡ true = sym (test .before .has-lf .ensures) ∙ test .if1 .taken in
     let b = ltb-true (turn .loop .end) (length (start .args .block .now)) t in
     omega (arith, b)
 
 loop-less : tie.Need-loop-less Inv-loop μ-loop
 loop-less c =
-    let test = c .before .before .before .before .before .before .before .before .before .before .before in
+    let test = c .before .before .before .before .before .before .before .before .before .before .before .before in
     let turn = test .before .before in
     let start = turn .before .before .before .before .before .before .before .before .before .before .before .before in
-    let t : ltb (turn .loop .end) (length (start .args .block .now)) ≡ true = sym (test .before .has-room .ensures) ∙ test .if1 .taken in
+    let t : ltb (turn .loop .end) (length (start .args .block .now)) ≡ true = sym (test .before .has-lf .ensures) ∙ test .if1 .taken in
     let b = ltb-true (turn .loop .end) (length (start .args .block .now)) t in
     let e = end-after (start .args .block .now) (turn .loop .from) in
     omega (arith, e, b, turn .loop .inv .1 .here)
@@ -165,12 +165,12 @@ loop-again c =
     let level = text .before .before in
     let number = level .before in
     let join = number .before in
-    let unread = join .before in
-    let line = unread .before in
+    let aim = join .before .before in
+    let line = aim .before in
     let test = line .before .before in
     let turn = test .before .before in
     let start = turn .before .before .before .before .before .before .before .before .before .before .before .before in
-    let t : ltb (turn .loop .end) (length (start .args .block .now)) ≡ true = sym (test .before .has-room .ensures) ∙ test .if1 .taken in
+    let t : ltb (turn .loop .end) (length (start .args .block .now)) ≡ true = sym (test .before .has-lf .ensures) ∙ test .if1 .taken in
     let b = ltb-true (turn .loop .end) (length (start .args .block .now)) t in
     let v = turn .loop .inv .1 in
     let rows = asRows (turn .loop .sla) (turn .loop .lens) (turn .loop .status) (turn .loop .counts) (turn .loop .settings) in
@@ -180,22 +180,19 @@ loop-again c =
     let done =
     ⊎-elim {C = Performs (v .part) (turn .loop .mem) l (record { heads = j .heads; answer = j .answer }) rows′ (j .mem)}
     (λ w.
-    rw (w .21, w .22, w .23, w .24, w .25, w .26, w .27, w .28)
-    (line-one (v .part) (turn .loop .mem) (v .whole) (turn .loop .heads) rows (v .holds) l _ _ _ (w .15 .result) _ _ (w .1 .given .1)
-    (sym (w .3 .ensures .0) ∙ w .5 .given .1) (w .15 .ensures)))
-    (⊎-elim
+    rw (w .17, w .18, w .19, w .20, w .21, w .22, w .23, w .24)
+    (line-one (v .part) (turn .loop .mem) (v .whole) (turn .loop .heads) rows (v .holds) l _ (aim .aim-of .ensures .0) _ _ (w .11 .result) _ _ (w .1 .given .1)
+    (w .11 .ensures)))
     (λ w.
-    rw (w .18, w .19, w .20, w .21, w .22, w .23, w .24, w .25)
-    (line-all (v .part) (turn .loop .mem) (v .whole) (turn .loop .heads) rows (v .holds) l _ _ (w .13 .result) _ _ (w .1 .given .1)
-    (sym (w .3 .ensures .0) ∙ w .5 .given .1) (w .13 .ensures)))
-    (λ w.
-    rw (w .2, w .3, w .4, w .5, w .6, w .7, w .8, w .9)
-    (line-unread (v .part) (turn .loop .mem) (v .whole) (turn .loop .heads) rows (v .holds) l _ (w .1 .given .1) (unread .unreadable .ensures))))
+    rw (w .14, w .15, w .16, w .17, w .18, w .19, w .20, w .21)
+    (line-rest (v .part) (turn .loop .mem) (v .whole) (turn .loop .heads) rows (v .holds) l _ (aim .aim-of .ensures .0) _ (w .9 .result) _ _ (w .1 .given .1)
+    (w .9 .ensures)))
     (j .came) in (
       put-length _ _ _ _ _ (text .write-answer .ensures .0) ∙ turn .loop .inv .0,
       going-on (start .args .block .now) _ _ _ (turn .loop .heads) rows (turn .loop .mem) (turn .loop .out) (turn .loop .step) (turn .loop .from)
           (turn .loop .at) (turn .loop .end) v l (j .heads) rows′ (j .answer) (level .interrupt-level .result) _ _ _ _ _ _ t (line .read-line .ensures) done
-          (number .next-number .ensures) (level .interrupt-level .ensures rows′) (text .write-answer .ensures .0) (text .write-answer .ensures .1) refl (c .line-end2 .ensures),
+          (number .next-number .ensures) (level .interrupt-level .ensures rows′) (text .write-answer .ensures .0) (text .write-answer .ensures .1) refl
+          (c .line-end2 .ensures),
     )
 
 -- ---- after the loop
@@ -211,7 +208,7 @@ returns c =
     let turn = test .before .before in
     let taken = turn .before .before in
     let start = taken .before .before .before .before .before .before .before .before .before .before in
-    let t : ltb (turn .loop .end) (length (start .args .block .now)) ≡ false = sym (test .before .has-room .ensures) ∙ test .if1 .left in
+    let t : ltb (turn .loop .end) (length (start .args .block .now)) ≡ false = sym (test .before .has-lf .ensures) ∙ test .if1 .left in
     let rows = asRows (turn .loop .sla) (turn .loop .lens) (turn .loop .status) (turn .loop .counts) (turn .loop .settings) in
     let r : Course = record { part = c .gather .result; step = turn .loop .step; from = turn .loop .from; at = turn .loop .at } in
     rw (holds-part (start .args .s .part) (taken .spread .result) _ (taken .spread .ensures)) at
@@ -233,7 +230,6 @@ answer-lines-spec =
     part-read-line-end
     (λ c κs. search needs)
     (λ c κs. search needs)
-    (λ c. search needs)
     (λ c κs. search needs)
     (λ c. search needs)
     (λ c. search needs)
@@ -243,8 +239,7 @@ answer-lines-spec =
     mul-g
     element-set-from-g
     (λ c. search needs)
-    all-requires
-    (λ c. search needs)
+    perform-requires
     (λ c κs. search needs)
     (λ c κs. search needs)
     (λ c κs. search needs)
