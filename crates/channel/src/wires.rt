@@ -11,10 +11,8 @@ ghost use Rattle.channel.specs.Head.{joined, told, headWalk, headFlags, 
 ghost use Rattle.channel.specs.Range.{inRange};
 ghost use Rattle.channel.specs.Wires.{movedTo, onward, finished, startedBy, started, beganBy, begun, sendOn, ackAddress, ackSending, receiveOn, received, failedBy, nacked};
 ghost use Rattle.channel.specs.Wires.{turned, turnStore, beaten, triggered, cleared, haltOf, lengthOf, Counting, Meets};
-use crate::state::Channel;
 use crate::state::Head;
 use crate::state::Headed;
-use crate::state::Stepped;
 use rules::Phase;
 use sequence::Action;
 use sequence::Beat;

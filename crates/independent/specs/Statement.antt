@@ -37,7 +37,7 @@ thePart = record {
   owner = λ a. ownerOf (targetOf a);
 }
 
--- on a machine M (`thePart`, or `theBench` of Tasks.antt): m, which mixes the lists k, l and n of channels 0, 1 and 2, against k, then l, then n: the same
+-- on a machine M (`thePart`; `theBench` of Tasks.antt; `theScript` of crate runner): m, which mixes the lists k, l and n of channels 0, 1 and 2, against k, then l, then n: the same
 -- part and memory at the end (`state`), the same interrupt level, and for each step the same answer and action, said twice: each channel's own log is
 -- the same (`answers`), and the log of the mixed run is a mix of the logs of the three lists, run one after another (`places`)
 pub record Independent {A Ans : Type 0} (M : Machine State A Ans) (s : State) (k l n m : List A) : Type 0 where

@@ -27,35 +27,38 @@ use Rattle.part.specs.Step.{commonAfter, commonOf, answerAt, Whole}
 
 -- the tables of all channels: SLATABLE, TRANCONFIG, STATUS, BYTECOUNT and the settings, each in a list with a row for each channel
 pub record Rows : Type 0 where
-  pub slas : List (List ℕ)
-  pub lengths : List (List ℕ)
-  pub statuses : List (List ℕ)
+  pub sla : List (List ℕ)
+  pub lens : List (List ℕ)
+  pub status : List (List ℕ)
   pub counts : List (List ℕ)
-  pub stored : List (List ℕ)
+  pub settings : List (List ℕ)
 
+-- five lists as rows
 abbrev pub asRows : List (List ℕ) → List (List ℕ) → List (List ℕ) → List (List ℕ) → List (List ℕ) → Rows
-asRows sla lens status counts settings = record { slas = sla; lengths = lens; statuses = status; counts = counts; stored = settings }
+asRows sla lens status counts settings = record { sla = sla; lens = lens; status = status; counts = counts; settings = settings }
 
--- three rows of each
+-- three rows of each; the code's types say so, but the logic sees lists
 pub record Three (t : Rows) : Type 0 where
-  pub slas : length (t .slas) ≡ 3
-  pub lengths : length (t .lengths) ≡ 3
-  pub statuses : length (t .statuses) ≡ 3
+  pub sla : length (t .sla) ≡ 3
+  pub lens : length (t .lens) ≡ 3
+  pub status : length (t .status) ≡ 3
   pub counts : length (t .counts) ≡ 3
-  pub stored : length (t .stored) ≡ 3
+  pub settings : length (t .settings) ≡ 3
 
 -- ---- TAKEN APART
 
+-- the heads of a part, with what it has beside its channels
 abbrev pub headsOf : Part → Heads
 headsOf p = record { channels = map headOf (p .channels); common = commonOf p }
 
+-- the tables of some channels, and of the part's
 abbrev pub tablesOf : List Channel → Rows
 tablesOf l = record {
-  slas = map (λ (x : Channel). x .slatable) l;
-  lengths = map (λ (x : Channel). x .tranconfig) l;
-  statuses = map (λ (x : Channel). x .status) l;
+  sla = map (λ (x : Channel). x .slatable) l;
+  lens = map (λ (x : Channel). x .tranconfig) l;
+  status = map (λ (x : Channel). x .status) l;
   counts = map (λ (x : Channel). x .bytecount) l;
-  stored = map (λ (x : Channel). x .settings) l;
+  settings = map (λ (x : Channel). x .settings) l;
 }
 
 abbrev pub rowsOf : Part → Rows
@@ -76,15 +79,16 @@ headAt h c = getD (h .channels) c (headOf blank)
 -- the channel of this head and row c of each
 abbrev pub channelIn : Head → Rows → ℕ → Channel
 channelIn h t c =
-    joined h (getD (t .slas) c []) (getD (t .lengths) c []) (getD (t .statuses) c []) (getD (t .counts) c []) (getD (t .stored) c [])
+    joined h (getD (t .sla) c []) (getD (t .lens) c []) (getD (t .status) c []) (getD (t .counts) c []) (getD (t .settings) c [])
 
-abbrev pub channelAt : Heads → Rows → ℕ → Channel
-channelAt h t c = channelIn (headAt h c) t c
+-- channel c of these heads and rows
+abbrev pub channelOf : Heads → Rows → ℕ → Channel
+channelOf h t c = channelIn (headAt h c) t c
 
 -- the part of these heads and rows
 abbrev pub gathered : Heads → Rows → Part
 gathered h t = record {
-  channels = channelAt h t 0 ∷ channelAt h t 1 ∷ channelAt h t 2 ∷ [];
+  channels = channelOf h t 0 ∷ channelOf h t 1 ∷ channelOf h t 2 ∷ [];
   be = h .common .be;
   mask = h .common .mask;
   key = h .common .key;
@@ -92,6 +96,7 @@ gathered h t = record {
 
 -- ---- rows that are lent to a call, always in the order SLATABLE, TRANCONFIG, STATUS, BYTECOUNT, settings
 
+-- one of the five, as it is lent
 abbrev pub Table : Type 0
 Table = RefT (List (List ℕ))
 
@@ -146,11 +151,11 @@ Pulls h r = (t : Rows) → r ≡ interruptOf (gathered h t)
 -- row c of each is the table of x, and every other row is as it was
 abbrev pub withRow : Rows → ℕ → Channel → Rows
 withRow t c x = record {
-  slas = set (t .slas) c (x .slatable);
-  lengths = set (t .lengths) c (x .tranconfig);
-  statuses = set (t .statuses) c (x .status);
+  sla = set (t .sla) c (x .slatable);
+  lens = set (t .lens) c (x .tranconfig);
+  status = set (t .status) c (x .status);
   counts = set (t .counts) c (x .bytecount);
-  stored = set (t .stored) c (x .settings);
+  settings = set (t .settings) c (x .settings);
 }
 
 -- what an access or an event may rely on

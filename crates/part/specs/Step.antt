@@ -49,7 +49,7 @@ commonAfter k op a = record { be = beAfter (k .be) (a .number); mask = k .mask; 
 abbrev pub answerAt : ℕ → Answer → PartAnswer
 answerAt c a = record { number = a .number; value = a .value; actions = onlyAt c (a .action) }
 
--- the part with a record of channel c, and with what is told of it
+-- the part with a record of channel c, and with what it has beside its channels
 abbrev pub oneAfter : Part → ℕ → Channel → Common → Part
 oneAfter p c r t = record { channels = set (p .channels) c r; be = t .be; mask = t .mask; key = t .key }
 

@@ -1,4 +1,4 @@
-// Document 01, 'The part as the processor sees it': CTRLSTATUS, CTRLINTMSK, the interrupt, and the reads and writes at F0h to FFh.
+// Document 01, 'The part as the processor sees it': pending causes, the interrupt, and what CTRLINTMSK keeps.
 ghost use mathlib.Core.Path.{_≡_};
 ghost use Prim.Native.Nat.{_<_};
 ghost use Rattle.part.specs.Registers.{unmaskedOf, calmOf, pendingOf, pulledBy, ctrlKept, ctrlpresetOf};

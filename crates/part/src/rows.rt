@@ -10,7 +10,7 @@ ghost use Rattle.channel.specs.Range.{inRange};
 ghost use Rattle.part.specs.State.{freshPart, wiped, plainPart, told, quiet};
 ghost use Rattle.part.specs.Registers.{pendingOf, ctrlRead, ctrlWritten, ctrlPut, ctrlStore};
 ghost use Rattle.part.specs.Step.{partIn, triggerStep, allServed, allStored, partStep, partBytes};
-ghost use Rattle.part.specs.Rows.{Three, Holds, headsOf, headAt, channelIn, channelAt, gathered, rowsIn, rowsFound, rowsLeft, found};
+ghost use Rattle.part.specs.Rows.{Three, Holds, headsOf, headAt, channelIn, channelOf, gathered, rowsIn, rowsFound, rowsLeft, found};
 ghost use Rattle.part.specs.Rows.{Ready, Gives, Tells, Shows, Pulls, withRow, OneReady, OneGives, EdgeGives};
 use crate::map::Ctrl;
 use crate::map::Step;
@@ -140,7 +140,7 @@ impl Heads {
         c: usize,
     ) -> Channel
         requires { ⌜ c < 3 ⌝ }
-        ensures { λ r. ⌜ r ≡ channelAt self (rowsFound sla lens status counts settings) c ⌝ }
+        ensures { λ r. ⌜ r ≡ channelOf self (rowsFound sla lens status counts settings) c ⌝ }
     {
         let h = self.channels[c];
         h.join(sla[c], lens[c], status[c], counts[c], settings[c])

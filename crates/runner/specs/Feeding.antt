@@ -7,10 +7,11 @@ use Rattle.part.specs.declared.state.Part.{Part}
 use Rattle.script.specs.Answer.{Put, answerRoom}
 use Rattle.script.specs.Grammar.{lineRoom}
 use Rattle.runner.specs.declared.answering.Course.{Course}
+use Rattle.runner.specs.Run.{start}
 use Rattle.runner.specs.Text.{Desk, Sitting, endedLines, restOf, afterAll, repliesTo}
 
 abbrev pub deskOf : Part → List ℕ → ℕ → Desk
-deskOf p m step = record { state = record { part = p; memory = m }; step = step }
+deskOf p m step = record { state = start p m; step = step }
 
 -- what is kept between two pieces of the input: of the line that has begun the first `lineRoom` bytes, with which it is read alike (Laws/Kept.antt)
 abbrev pub shortened : Sitting → Sitting

@@ -1,16 +1,14 @@
--- WHAT A SCRIPT'S BYTES COME TO: its lines, each a step of the part, and a line of text for each. The program is proved to write `outputOf` of what it read.
+-- WHAT A SCRIPT'S BYTES COME TO: its lines, each a step of the part, and a line of text for each. What the program hands to `write` is `outputOf` of what
+-- stood in its block after each `read`.
 use Prim.Native.Nat.{ℕ, _+_}
 use mathlib.Core.List.{List, [], _∷_, _++_}
 use lib.Dec.{eqb}
 use Rattle.laws.specs.Pick.{if_then_else_}
-use Rattle.part.specs.declared.state.Part.{Part}
-use Rattle.part.specs.declared.state.PartAnswer.{PartAnswer}
 use Rattle.part.specs.Registers.{interruptOf}
 use Rattle.part.specs.State.{freshPart, wiped}
 use Rattle.independent.specs.Statement.{State}
 use Rattle.script.specs.Answer.{answerLine, header}
-use Rattle.script.specs.Grammar.{lineOf}
-use Rattle.runner.specs.Run.{answered, afterLine}
+use Rattle.runner.specs.Run.{theScript}
 
 -- ---- the lines of some bytes: an LF (10) ends a line
 
@@ -45,10 +43,10 @@ pub record Desk : Type 0 where
 
 -- after a line, and the line of its answer: the number of the step, its answer, and INT after it
 unfoldable pub afterOne : Desk → List ℕ → Desk
-afterOne d l = record { state = afterLine (d .state) (lineOf l); step = numberAfter (d .step) }
+afterOne d l = record { state = theScript .after (d .state) l; step = numberAfter (d .step) }
 
 unfoldable pub replyTo : Desk → List ℕ → List ℕ
-replyTo d l = answerLine (numberAfter (d .step)) (answered (d .state) (lineOf l)) (interruptOf (afterLine (d .state) (lineOf l) .part))
+replyTo d l = answerLine (numberAfter (d .step)) (theScript .answer (d .state) l) (interruptOf (theScript .after (d .state) l .part))
 
 unfoldable pub afterAll : Desk → List (List ℕ) → Desk
 afterAll d [] = d

@@ -57,7 +57,7 @@ use Rattle.part.specs.Rows.{
   Holds,
   headAt,
   channelIn,
-  channelAt,
+  channelOf,
   gathered,
   Ready,
   Gives,
@@ -92,7 +92,7 @@ three-of d (a ∷ b ∷ c ∷ e ∷ l) h = absurd (let k : length (a ∷ b ∷ c
 
 -- ---- taken apart, and put together
 module _ (p : Part) where
-  at-apart : (c : ℕ) → channelAt (headsOf p) (rowsOf p) c ≡ chan p c
+  at-apart : (c : ℕ) → channelOf (headsOf p) (rowsOf p) c ≡ chan p c
   at-apart c =
       let l = p .channels in
       rw (
@@ -110,29 +110,29 @@ module _ (p : Part) where
   three-rows : length (p .channels) ≡ 3 → Three (rowsOf p)
   three-rows three =
       record {
-        slas = length-map (p .channels) (λ (x : Channel). x .slatable) ∙ three;
-        lengths = length-map (p .channels) (λ (x : Channel). x .tranconfig) ∙ three;
-        statuses = length-map (p .channels) (λ (x : Channel). x .status) ∙ three;
+        sla = length-map (p .channels) (λ (x : Channel). x .slatable) ∙ three;
+        lens = length-map (p .channels) (λ (x : Channel). x .tranconfig) ∙ three;
+        status = length-map (p .channels) (λ (x : Channel). x .status) ∙ three;
         counts = length-map (p .channels) (λ (x : Channel). x .bytecount) ∙ three;
-        stored = length-map (p .channels) (λ (x : Channel). x .settings) ∙ three;
+        settings = length-map (p .channels) (λ (x : Channel). x .settings) ∙ three;
       }
 
 pub apart-gathered : (h : Heads) (t : Rows) → length (h .channels) ≡ 3 → Three t → Holds (gathered h t) h t
 apart-gathered h t n w =
     let heads = sym (three-of (headOf blank) (h .channels) n) in
-    let slas = sym (three-of [] (t .slas) (w .slas)) in
-    let lengths = sym (three-of [] (t .lengths) (w .lengths)) in
-    let statuses = sym (three-of [] (t .statuses) (w .statuses)) in
+    let sla = sym (three-of [] (t .sla) (w .sla)) in
+    let lens = sym (three-of [] (t .lens) (w .lens)) in
+    let status = sym (three-of [] (t .status) (w .status)) in
     let counts = sym (three-of [] (t .counts) (w .counts)) in
-    let stored = sym (three-of [] (t .stored) (w .stored)) in
+    let settings = sym (three-of [] (t .settings) (w .settings)) in
     record {
       heads = λ i. record { channels = heads i; common = h .common };
-      rows = λ i. record { slas = slas i; lengths = lengths i; statuses = statuses i; counts = counts i; stored = stored i };
+      rows = λ i. record { sla = sla i; lens = lens i; status = status i; counts = counts i; settings = settings i };
       three = refl;
     }
 
 module _ (p : Part) (h : Heads) (t : Rows) (w : Holds p h t) where
-  pub holds-at : (c : ℕ) → channelAt h t c ≡ chan p c
+  pub holds-at : (c : ℕ) → channelOf h t c ≡ chan p c
   holds-at c = rw (w .heads, w .rows) (at-apart p c)
 
   pub holds-part : gathered h t ≡ p
@@ -228,7 +228,7 @@ module _ (x : Stepped) (r : Headed) (a b d e f : List ℕ) (q : rejoined r a b d
   lent-headed = ap headedOf q
 
   pub lent-row : (c : ℕ) (t : Rows)
-      → record { slas = set (t .slas) c a; lengths = set (t .lengths) c b; statuses = set (t .statuses) c d; counts = set (t .counts) c e; stored = set (t .stored) c f }
+      → record { sla = set (t .sla) c a; lens = set (t .lens) c b; status = set (t .status) c d; counts = set (t .counts) c e; settings = set (t .settings) c f }
       ≡ withRow t c (x .channel)
   lent-row c t = ap (λ (y : Stepped). withRow t c (y .channel)) q
 
@@ -251,11 +251,11 @@ module _ (t : Rows) (c : ℕ) (x : Channel) where
   pub other-row : (g : Head) (j : ℕ) → (j ≡ c → ⊥) → channelIn g (withRow t c x) j ≡ channelIn g t j
   other-row g j n =
       rw (
-        getD-set-other (t .slas) c j (x .slatable) [] n,
-        getD-set-other (t .lengths) c j (x .tranconfig) [] n,
-        getD-set-other (t .statuses) c j (x .status) [] n,
+        getD-set-other (t .sla) c j (x .slatable) [] n,
+        getD-set-other (t .lens) c j (x .tranconfig) [] n,
+        getD-set-other (t .status) c j (x .status) [] n,
         getD-set-other (t .counts) c j (x .bytecount) [] n,
-        getD-set-other (t .stored) c j (x .settings) [] n,
+        getD-set-other (t .settings) c j (x .settings) [] n,
       )
 
 set-three : {A : Type 0} (l : List A) (a b d : A) → length l ≡ 3 → set (set (set l 0 a) 1 b) 2 d ≡ (a ∷ b ∷ d ∷ [])
@@ -265,11 +265,11 @@ set-three l a b d n = rw (← three-of a l n)
 pub all-rows : (t : Rows) (a b d : Channel) → Three t → withRow (withRow (withRow t 0 a) 1 b) 2 d ≡ tablesOf (a ∷ b ∷ d ∷ [])
 all-rows t a b d w =
     rw (
-      set-three (t .slas) (a .slatable) (b .slatable) (d .slatable) (w .slas),
-      set-three (t .lengths) (a .tranconfig) (b .tranconfig) (d .tranconfig) (w .lengths),
-      set-three (t .statuses) (a .status) (b .status) (d .status) (w .statuses),
+      set-three (t .sla) (a .slatable) (b .slatable) (d .slatable) (w .sla),
+      set-three (t .lens) (a .tranconfig) (b .tranconfig) (d .tranconfig) (w .lens),
+      set-three (t .status) (a .status) (b .status) (d .status) (w .status),
       set-three (t .counts) (a .bytecount) (b .bytecount) (d .bytecount) (w .counts),
-      set-three (t .stored) (a .settings) (b .settings) (d .settings) (w .stored),
+      set-three (t .settings) (a .settings) (b .settings) (d .settings) (w .settings),
     )
 
 -- the part's own three
@@ -284,7 +284,7 @@ spread-holds p h t t′ three w e f =
 module _ (h : Heads) (t : Rows) (edge : Edge) (w : partIn (gathered h t) ≡ true) where
   pub second-in-range : (a : Headed) (t₁ : Rows) → EdgeGives (headAt h 0) t 0 edge a t₁ → inRange (channelIn (headAt h 1) t₁ 1) ≡ true
   second-in-range a t₁ x =
-      rw (x .rows, other-row t 0 (triggered (channelAt h t 0) edge .channel) (headAt h 1) 1 (λ e. omega (arith, e))) (chan-in-range (gathered h t) 1 w)
+      rw (x .rows, other-row t 0 (triggered (channelOf h t 0) edge .channel) (headAt h 1) 1 (λ e. omega (arith, e))) (chan-in-range (gathered h t) 1 w)
 
   pub third-in-range : (a b : Headed) (t₁ t₂ : Rows) → EdgeGives (headAt h 0) t 0 edge a t₁ → EdgeGives (headAt h 1) t₁ 1 edge b t₂
       → inRange (channelIn (headAt h 2) t₂ 2) ≡ true
@@ -293,7 +293,7 @@ module _ (h : Heads) (t : Rows) (edge : Edge) (w : partIn (gathered h t) ≡ tru
         y .rows,
         other-row t₁ 1 (triggered (channelIn (headAt h 1) t₁ 1) edge .channel) (headAt h 2) 2 (λ e. omega (arith, e)),
         x .rows,
-        other-row t 0 (triggered (channelAt h t 0) edge .channel) (headAt h 2) 2 (λ e. omega (arith, e)),
+        other-row t 0 (triggered (channelOf h t 0) edge .channel) (headAt h 2) 2 (λ e. omega (arith, e)),
       )
       (chan-in-range (gathered h t) 2 w)
 
@@ -318,7 +318,7 @@ edgesStored h a b d = record {
 module _ (h : Heads) (t : Rows) (edge : Edge) (three : Three t) where
   -- what channel c answers, as it stood before the edge
   abbrev edged : ℕ → Stepped
-  edged c = triggered (channelAt h t c) edge
+  edged c = triggered (channelOf h t c) edge
 
   -- the rows after the first, the second and the third of them
   abbrev one : Rows

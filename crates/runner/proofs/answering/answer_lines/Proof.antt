@@ -29,7 +29,7 @@ abbrev μ-loop : tie.MeasureT-loop
 
 -- ---- before the loop
 spread-requires : tie.Need-spread-requires Inv-loop μ-loop
-spread-requires c κs = record { slas = refl; lengths = refl; statuses = refl; counts = refl; stored = refl }
+spread-requires c κs = record { sla = refl; lens = refl; status = refl; counts = refl; settings = refl }
 
 line-end-requires : tie.Need-line-end-requires Inv-loop μ-loop
 line-end-requires c κs =

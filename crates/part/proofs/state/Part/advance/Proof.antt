@@ -6,7 +6,7 @@ use Rattle.part.proofs.state.Part.advance.Statement.{statement}
 use Rattle.part.proofs.state.Part.advance.Tie as tie
 
 spread-requires : tie.Need-spread-requires
-spread-requires c κs = record { slas = refl; lengths = refl; statuses = refl; counts = refl; stored = refl }
+spread-requires c κs = record { sla = refl; lens = refl; status = refl; counts = refl; settings = refl }
 
 advance-requires : tie.Need-advance-requires
 advance-requires c κs =
