@@ -139,8 +139,8 @@ impl Head {
 }
 
 impl Channel {
-    // A step of a channel that is in range, for the whole part's step.
-    pub fn serve(self, number: u8, mem: &mut [u8], op: Op) -> Stepped
+    // A step of a channel that is in range.
+    fn serve(self, number: u8, mem: &mut [u8], op: Op) -> Stepped
         requires { ⌜ Accepted self (now mem) ⌝ }
         ensures { λ r. ⌜ (r ≡ servedBy self (now (mem .entry)) number op) × (now (mem .exit) ≡ servedStore self (now (mem .entry)) number op) ⌝ }
     {

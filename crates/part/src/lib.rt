@@ -9,8 +9,6 @@ pub use map::Step;
 pub use map::Target;
 pub use map::Wide;
 pub use map::target_of;
-pub use registers::pending;
-pub use registers::pulled;
 pub use rows::Common;
 pub use rows::Heads;
 pub use rows::HeadsStepped;

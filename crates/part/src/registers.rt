@@ -71,7 +71,7 @@ fn some_unmasked(f: Flags, mask: u8) -> bool
 }
 
 // Whether a channel with these flags and this INTMSK is pending. Most often none is set, and that is told sooner.
-pub fn pending(f: Flags, mask: u8) -> bool
+pub(crate) fn pending(f: Flags, mask: u8) -> bool
     ensures { λ r. ⌜ r ≡ pendingOf f mask ⌝ }
 {
     if calm(f) {
@@ -81,7 +81,7 @@ pub fn pending(f: Flags, mask: u8) -> bool
 }
 
 // Whether INT is pulled, by BE, CTRLINTMSK and the channels that are pending.
-pub fn pulled(be: bool, mask: u8, first: bool, second: bool, third: bool) -> bool
+pub(crate) fn pulled(be: bool, mask: u8, first: bool, second: bool, third: bool) -> bool
     ensures { λ r. ⌜ r ≡ pulledBy be mask first second third ⌝ }
 {
     if unmasked(be, mask, 0x80) {
