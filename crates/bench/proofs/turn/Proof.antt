@@ -8,6 +8,28 @@ use mathlib.Core.Path.{ap, refl}
 use Rattle.bench.proofs.turn.Statement.{statement}
 use Rattle.bench.proofs.turn.Tie as tie
 
+-- the read failed
+returns : tie.Need-returns
+returns c =
+    let start = c .before .before .before .before .before .before .before .before .before in
+    rw (c .silent .ensures) ((unread refl refl refl, silenced-ready _ _ (start .pre .0)))
+
+-- the input has ended
+returns-2 : tie.Need-returns-2
+returns-2 c =
+    let last = c .before .before .before .before .before .before .before .before in
+    let closed = last .finish .ensures in
+    (ended (c .written .ensures) refl (closed .text), closed .ready)
+
+-- bytes came
+returns-3 : tie.Need-returns-3
+returns-3 c =
+    let answered = c .before .before .before .before .before .before .before .before in
+    let counted = answered .before .before .before .before .before in
+    let from = answered .answer-from .ensures in
+    let same = ap (take (counted .count .result)) (from .1 .0) in
+    (heard-turned _ _ _ _ _ _ _ same (c .written2 .ensures) (from .0), from .0 .ready)
+
 pub turn-spec : {M : Type 1} → statement M
 unfolding lineRoom
 turn-spec =
@@ -16,30 +38,23 @@ turn-spec =
     (λ c. search needs)
     (λ c. search needs)
     (λ c. search needs)
-    (λ c. λ κs. search needs)
-    (λ c. λ κs. search needs)
+    (λ c κs. search needs)
+    (λ c κs. search needs)
     (λ c. search needs)
-    (λ c.
-    let start = c .before .before .before .before .before .before .before .before .before in
-    rw (c .silent .ensures) ((unread refl refl refl, silenced-ready _ _ (start .pre .0))))
+    returns
     (λ c. search needs)
     (λ c. search needs)
     (λ c. search needs)
-    (λ c. λ κs. search needs)
-    (λ c. λ κs. search needs)
-    (λ c. λ κs. search needs)
+    (λ c κs. search needs)
+    (λ c κs. search needs)
+    (λ c κs. search needs)
     (λ c. search needs)
     (λ c. search needs)
     (λ c. search needs)
-    (λ c.
-    let last = c .before .before .before .before .before .before .before .before in
-    (ended (c .written .ensures) refl (last .finish .ensures .text), last .finish .ensures .ready))
-    (λ c. λ κs. search needs)
-    (λ c. λ κs. search needs)
+    returns-2
+    (λ c κs. search needs)
+    (λ c κs. search needs)
     (λ c. search needs)
     (λ c. search needs)
     (λ c. search needs)
-    (λ c.
-    let answered = c .before .before .before .before .before .before .before .before in
-    let counted = answered .before .before .before .before .before in
-    (heard-turned _ _ _ _ _ _ _ (ap (take (counted .count .result)) (answered .answer-from .ensures .1 .0)) (c .written2 .ensures) (answered .answer-from .ensures .0), answered .answer-from .ensures .0 .ready)))
+    returns-3)

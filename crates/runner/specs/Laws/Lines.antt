@@ -5,7 +5,7 @@ use mathlib.Core.List.{List, [], _∷_, _++_, append-nil, append-assoc}
 use mathlib.Core.Path.{_≡_, refl, sym, _∙_, ap, subst}
 use native.Mathlib.Numerals.{add-one}
 use native.Mathlib.Omega.{arith}
-use borrow.Author.Tests.{ltb-true, ltb-false, leb-true, leb-false}
+use borrow.Author.Tests.{eq-eqb, ne-eqb, ltb-true, ltb-false, leb-true, leb-false}
 use lib.Dec.{eqb, leb, ltb}
 use lib.ListN.{length, getD, take, drop, set, length-append, length-drop, length-take, length-set, length-replicate, drop-of-length-le}
 use lib.Seq.{sets, sets-eq, drop-append-seam, drop-cons, drop-drop, length-take-le, take-all, take-append-add, take-append-seam, take-append-le, take-nil, take-suc-set}
@@ -34,22 +34,22 @@ module _ (block : List ℕ) (from : ℕ) where
   unfolding lineEnd
   end-last h = let e : firstLf (drop from block) ≡ 0 = ap firstLf (drop-of-length-le block h) in omega (arith, e)
 
-  pub end-here : from < length block → eqb (getD block from 0) 10 ≡ true → lineEnd block from ≡ from
+-- a place of the block in a line that starts at another
+module _ (block : List ℕ) (from at : ℕ) (inside : at < length block) (same : lineEnd block from ≡ lineEnd block at) where
+  -- an LF ends the line
+  pub ends-here : getD block at 0 ≡ 10 → at ≡ lineEnd block from
   unfolding lineEnd if_then_else_
-  end-here h t = let e : firstLf (drop from block) ≡ 0 = ap firstLf (drop-cons block from 0 h) ∙ rw t in omega (arith, e)
+  ends-here t =
+      let e : firstLf (drop at block) ≡ 0 = ap firstLf (drop-cons block at 0 inside) ∙ rw (eq-eqb _ _ t) in
+      omega (arith, e, same)
 
-  pub end-later : from < length block → eqb (getD block from 0) 10 ≡ false → lineEnd block from ≡ lineEnd block (from + 1)
+  -- after any other byte it goes on
+  pub goes-on : (getD block at 0 ≡ 10 → ⊥) → (next : ℕ) → next ≡ at + 1 → lineEnd block from ≡ lineEnd block next
   unfolding lineEnd if_then_else_
-  end-later h t =
-      let n = add-one from in
-      let e : firstLf (drop from block) ≡ firstLf (drop (from + 1) block) + 1 = ap firstLf (drop-cons block from 0 h) ∙ rw (t, n) in
-      omega (arith, e)
-
--- the same k bytes further on, of any place that is the line's end from there
-pub end-past : (block : List ℕ) (from k : ℕ) {end : ℕ} → end ≡ lineEnd block (from + k) → from + k < length block → eqb (getD block (from + k) 0) 10 ≡ false → end ≡ lineEnd block (from + suc k)
-end-past block from k e h t =
-    let n : from + k + 1 ≡ from + suc k = omega arith in
-    e ∙ end-later block (from + k) h t ∙ ap (lineEnd block) n
+  goes-on t next e =
+      let n = add-one at in
+      let k : firstLf (drop at block) ≡ firstLf (drop next block) + 1 = ap firstLf (drop-cons block at 0 inside) ∙ rw (ne-eqb _ _ t, e, n) in
+      omega (arith, k, e, same)
 
 -- ---- bytes that are put somewhere, and those that follow them
 behind-put : (k l : List ℕ) (a : ℕ) → a + length k ≤ length l → drop a (sets l a k) ≡ k ++ drop (a + length k) l

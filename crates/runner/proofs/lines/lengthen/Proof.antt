@@ -16,6 +16,21 @@ Inv-loop more longer₀ i₀ longer i = (i ≤ length more) × (lengthened longe
 abbrev μ-loop : tie.MeasureT-loop
 μ-loop more longer₀ i₀ longer i = length more - i
 
+loop-again : tie.Need-loop-again Inv-loop μ-loop
+loop-again c =
+    let turn = c .before .before .before in
+    let l = turn .before .before .args .more .now in
+    let i = turn .loop .i in
+    let h : i < length l = omega arith in
+    (omega arith, turn .loop .inv .1 ∙ ap (lengthened (turn .loop .longer)) (drop-cons l i 0 h) ∙ rw (c .with-byte .ensures, add-one i))
+
+returns : tie.Need-returns Inv-loop μ-loop
+returns c =
+    let turn = c .before in
+    let l = turn .before .before .args .more .now in
+    let h : length l ≤ turn .loop .i = omega arith in
+    sym (turn .loop .inv .1 ∙ ap (lengthened (turn .loop .longer)) (drop-of-length-le l h))
+
 pub lengthen-spec : {M : Type 1} → statement M
 lengthen-spec =
     tie.close
@@ -24,8 +39,8 @@ lengthen-spec =
     μ-loop
     (λ c. (search needs, refl))
     (λ c. search needs)
-    (λ c. λ κs. search needs)
+    (λ c κs. search needs)
     (λ c. search needs)
     (λ c. search needs)
-    (λ c. let l = c .before .before .before .before .before .args .more .now in let i = c .before .before .before .loop .i in let h : i < length l = omega arith in (omega arith, c .before .before .before .loop .inv .1 ∙ ap (lengthened (c .before .before .before .loop .longer)) (drop-cons l i 0 h) ∙ rw (c .with-byte .ensures, add-one i)))
-    (λ c. let l = c .before .before .before .args .more .now in let i = c .before .loop .i in let h : length l ≤ i = omega arith in sym (c .before .loop .inv .1 ∙ ap (lengthened (c .before .loop .longer)) (drop-of-length-le l h))))
+    loop-again
+    returns)
