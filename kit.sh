@@ -11,5 +11,7 @@ emulator=$tools/bin/qemu-x86_64
 [ -r "$loader" ] || die "the kit has no loader for this machine, $(uname -m)"
 for word in $(env | sed -n 's/^\(QEMU_[A-Za-z0-9_]*\)=.*/\1/p'); do unset "$word"; done
 
-# on_kit PROGRAM: runs it. In ( .. ), or in a script that ends with it, since it does not come back.
-on_kit() { exec ${emulator:+"$emulator"} "$loader" --library-path "$tools/lib" "$@"; }
+# on_kit PROGRAM: runs it, in ( .. ), since it does not come back. A closed pipe ends it without a word, also where the caller ignores SIGPIPE, if env can do that.
+plain='env --default-signal=PIPE'
+$plain true 2>/dev/null || plain=''
+on_kit() { exec $plain ${emulator:+"$emulator"} "$loader" --library-path "$tools/lib" "$@"; }

@@ -1,5 +1,3 @@
 -- Laws of the definitions. Nothing here needs to be believed: it is proved.
-pub mod Lines
-pub mod Performing
-pub mod Answering
 pub mod Blocks
+pub mod Talk

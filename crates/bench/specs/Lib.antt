@@ -1,5 +1,2 @@
-pub mod Lines
-pub mod Performing
-pub mod Answering
-pub mod Blocks
+pub mod Talk
 pub mod Laws

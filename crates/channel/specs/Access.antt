@@ -19,7 +19,8 @@ use Rattle.sequence.specs.Wires.{askOf}
 use Rattle.sequence.specs.Walk.{waiting, stoRecorded, seqRecorded, noFlags}
 use Rattle.channel.specs.declared.state.Channel.{Channel}
 use Rattle.channel.specs.declared.state.Stepped.{Stepped}
-use Rattle.channel.specs.State.{fresh, zeros, plain, refused, replied, guarded, withSla, withConf, withSettings, withFlags, withPtrs, withWalk, withKey, slaAt, confAt, dataAt, countAt, maskSet, placeSet, modeSet}
+use Rattle.channel.specs.State.{fresh, zeros, plain, refused, replied, guarded, withSla, withConf, withSettings, withFlags, withPtrs, withWalk, withKey}
+use Rattle.channel.specs.State.{slaAt, confAt, dataAt, countAt, maskSet, placeSet, modeSet}
 use Rattle.channel.specs.Wires.{begun, endedBy}
 
 -- ---- reads

@@ -78,34 +78,144 @@ framecntOf c = getD (c .settings) 0 0
 
 -- ---- the record with one part replaced
 abbrev pub withSla : Channel → List ℕ → Channel
-withSla c l = record { slatable = l; tranconfig = c .tranconfig; status = c .status; bytecount = c .bytecount; settings = c .settings; regs = c .regs; flags = c .flags; ptrs = c .ptrs; walk = c .walk; key = c .key }
+withSla c l = record {
+  slatable = l;
+  tranconfig = c .tranconfig;
+  status = c .status;
+  bytecount = c .bytecount;
+  settings = c .settings;
+  regs = c .regs;
+  flags = c .flags;
+  ptrs = c .ptrs;
+  walk = c .walk;
+  key = c .key;
+}
 
 abbrev pub withConf : Channel → List ℕ → Channel
-withConf c l = record { slatable = c .slatable; tranconfig = l; status = c .status; bytecount = c .bytecount; settings = c .settings; regs = c .regs; flags = c .flags; ptrs = c .ptrs; walk = c .walk; key = c .key }
+withConf c l = record {
+  slatable = c .slatable;
+  tranconfig = l;
+  status = c .status;
+  bytecount = c .bytecount;
+  settings = c .settings;
+  regs = c .regs;
+  flags = c .flags;
+  ptrs = c .ptrs;
+  walk = c .walk;
+  key = c .key;
+}
 
 abbrev pub withStatus : Channel → List ℕ → Channel
-withStatus c l = record { slatable = c .slatable; tranconfig = c .tranconfig; status = l; bytecount = c .bytecount; settings = c .settings; regs = c .regs; flags = c .flags; ptrs = c .ptrs; walk = c .walk; key = c .key }
+withStatus c l = record {
+  slatable = c .slatable;
+  tranconfig = c .tranconfig;
+  status = l;
+  bytecount = c .bytecount;
+  settings = c .settings;
+  regs = c .regs;
+  flags = c .flags;
+  ptrs = c .ptrs;
+  walk = c .walk;
+  key = c .key;
+}
 
 abbrev pub withCounts : Channel → List ℕ → Channel
-withCounts c l = record { slatable = c .slatable; tranconfig = c .tranconfig; status = c .status; bytecount = l; settings = c .settings; regs = c .regs; flags = c .flags; ptrs = c .ptrs; walk = c .walk; key = c .key }
+withCounts c l = record {
+  slatable = c .slatable;
+  tranconfig = c .tranconfig;
+  status = c .status;
+  bytecount = l;
+  settings = c .settings;
+  regs = c .regs;
+  flags = c .flags;
+  ptrs = c .ptrs;
+  walk = c .walk;
+  key = c .key;
+}
 
 abbrev pub withSettings : Channel → List ℕ → Channel
-withSettings c l = record { slatable = c .slatable; tranconfig = c .tranconfig; status = c .status; bytecount = c .bytecount; settings = l; regs = c .regs; flags = c .flags; ptrs = c .ptrs; walk = c .walk; key = c .key }
+withSettings c l = record {
+  slatable = c .slatable;
+  tranconfig = c .tranconfig;
+  status = c .status;
+  bytecount = c .bytecount;
+  settings = l;
+  regs = c .regs;
+  flags = c .flags;
+  ptrs = c .ptrs;
+  walk = c .walk;
+  key = c .key;
+}
 
 abbrev pub withRegs : Channel → Regs → Channel
-withRegs c r = record { slatable = c .slatable; tranconfig = c .tranconfig; status = c .status; bytecount = c .bytecount; settings = c .settings; regs = r; flags = c .flags; ptrs = c .ptrs; walk = c .walk; key = c .key }
+withRegs c r = record {
+  slatable = c .slatable;
+  tranconfig = c .tranconfig;
+  status = c .status;
+  bytecount = c .bytecount;
+  settings = c .settings;
+  regs = r;
+  flags = c .flags;
+  ptrs = c .ptrs;
+  walk = c .walk;
+  key = c .key;
+}
 
 abbrev pub withFlags : Channel → Flags → Channel
-withFlags c f = record { slatable = c .slatable; tranconfig = c .tranconfig; status = c .status; bytecount = c .bytecount; settings = c .settings; regs = c .regs; flags = f; ptrs = c .ptrs; walk = c .walk; key = c .key }
+withFlags c f = record {
+  slatable = c .slatable;
+  tranconfig = c .tranconfig;
+  status = c .status;
+  bytecount = c .bytecount;
+  settings = c .settings;
+  regs = c .regs;
+  flags = f;
+  ptrs = c .ptrs;
+  walk = c .walk;
+  key = c .key;
+}
 
 abbrev pub withPtrs : Channel → Ptrs → Channel
-withPtrs c p = record { slatable = c .slatable; tranconfig = c .tranconfig; status = c .status; bytecount = c .bytecount; settings = c .settings; regs = c .regs; flags = c .flags; ptrs = p; walk = c .walk; key = c .key }
+withPtrs c p = record {
+  slatable = c .slatable;
+  tranconfig = c .tranconfig;
+  status = c .status;
+  bytecount = c .bytecount;
+  settings = c .settings;
+  regs = c .regs;
+  flags = c .flags;
+  ptrs = p;
+  walk = c .walk;
+  key = c .key;
+}
 
 abbrev pub withWalk : Channel → Walk → Channel
-withWalk c w = record { slatable = c .slatable; tranconfig = c .tranconfig; status = c .status; bytecount = c .bytecount; settings = c .settings; regs = c .regs; flags = c .flags; ptrs = c .ptrs; walk = w; key = c .key }
+withWalk c w = record {
+  slatable = c .slatable;
+  tranconfig = c .tranconfig;
+  status = c .status;
+  bytecount = c .bytecount;
+  settings = c .settings;
+  regs = c .regs;
+  flags = c .flags;
+  ptrs = c .ptrs;
+  walk = w;
+  key = c .key;
+}
 
 abbrev pub withKey : Channel → Bool → Channel
-withKey c k = record { slatable = c .slatable; tranconfig = c .tranconfig; status = c .status; bytecount = c .bytecount; settings = c .settings; regs = c .regs; flags = c .flags; ptrs = c .ptrs; walk = c .walk; key = k }
+withKey c k = record {
+  slatable = c .slatable;
+  tranconfig = c .tranconfig;
+  status = c .status;
+  bytecount = c .bytecount;
+  settings = c .settings;
+  regs = c .regs;
+  flags = c .flags;
+  ptrs = c .ptrs;
+  walk = c .walk;
+  key = k;
+}
 
 -- ---- one pointer replaced
 abbrev pub slaPtr : Ptrs → ℕ → Ptrs

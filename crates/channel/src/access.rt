@@ -220,7 +220,12 @@ impl Head {
     }
 
     fn set_pointers(self, k: Command, place: usize) -> Head
-        ensures { λ r. ⌜ r ≡ headPtrs self (record { sla = rewound (k .aiptrrst) (self .ptrs .sla); conf = rewound (k .aiptrrst) (self .ptrs .conf); buf = pointedAt (k .aiptrrst) place (self .ptrs .buf); count = rewound (k .bptrrst) (self .ptrs .count) }) ⌝ }
+        ensures { λ r. ⌜ r ≡ headPtrs self (record {
+          sla = rewound (k .aiptrrst) (self .ptrs .sla);
+          conf = rewound (k .aiptrrst) (self .ptrs .conf);
+          buf = pointedAt (k .aiptrrst) place (self .ptrs .buf);
+          count = rewound (k .bptrrst) (self .ptrs .count);
+        }) ⌝ }
     {
         let p = self.ptrs;
         let ptrs = Ptrs {
@@ -244,7 +249,9 @@ impl Head {
         a: Ask,
     ) -> Headed
         requires { ⌜ getD (now lens) 0 0 ≤ 64 ⌝ }
-        ensures { λ r. ⌜ Turns (λ c. asked c a) self (now (sla .entry)) (now (lens .entry)) (now (status .entry)) (now (counts .entry)) (now (settings .entry)) r (now (status .exit)) (now (counts .exit)) ⌝ }
+        ensures { λ r. ⌜ Turns (λ c. asked c a) self
+            (now (sla .entry)) (now (lens .entry)) (now (status .entry)) (now (counts .entry)) (now (settings .entry))
+            r (now (status .exit)) (now (counts .exit)) ⌝ }
     {
         let w = self.walk;
         match a {
@@ -268,7 +275,9 @@ impl Head {
         k: Command,
     ) -> Headed
         requires { ⌜ (self .regs .transel ≤ 63) × (getD (now lens) 0 0 ≤ 64) ⌝ }
-        ensures { λ r. ⌜ Turns (λ c. controlled c k) self (now (sla .entry)) (now (lens .entry)) (now (status .entry)) (now (counts .entry)) (now (settings .entry)) r (now (status .exit)) (now (counts .exit)) ⌝ }
+        ensures { λ r. ⌜ Turns (λ c. controlled c k) self
+            (now (sla .entry)) (now (lens .entry)) (now (status .entry)) (now (counts .entry)) (now (settings .entry))
+            r (now (status .exit)) (now (counts .exit)) ⌝ }
     {
         let w = self.walk;
         let p = w.phase;
@@ -396,8 +405,13 @@ impl Head {
         reg: Register,
         v: u8,
     ) -> Headed
-        requires { ⌜ Accepted (joined self (now sla) (now lens) (now status) (now counts) (now settings)) (now mem) × Known reg × (refusalOf (joined self (now sla) (now lens) (now status) (now counts) (now settings)) reg v ≡ 0) ⌝ }
-        ensures { λ r. ⌜ Writes (λ c. writtenBy c reg v) self (now (sla .entry)) (now (lens .entry)) (now (status .entry)) (now (counts .entry)) (now (settings .entry)) r (now (sla .exit)) (now (lens .exit)) (now (status .exit)) (now (counts .exit)) (now (settings .exit)) × (now (mem .exit) ≡ storedBy (joined self (now (sla .entry)) (now (lens .entry)) (now (status .entry)) (now (counts .entry)) (now (settings .entry))) (now (mem .entry)) reg v) ⌝ }
+        requires { ⌜ Accepted (joined self (now sla) (now lens) (now status) (now counts) (now settings)) (now mem)
+            × Known reg
+            × (refusalOf (joined self (now sla) (now lens) (now status) (now counts) (now settings)) reg v ≡ 0) ⌝ }
+        ensures { λ r. ⌜ Writes (λ c. writtenBy c reg v) self
+            (now (sla .entry)) (now (lens .entry)) (now (status .entry)) (now (counts .entry)) (now (settings .entry))
+            r (now (sla .exit)) (now (lens .exit)) (now (status .exit)) (now (counts .exit)) (now (settings .exit))
+            × (now (mem .exit) ≡ storedBy (joined self (now (sla .entry)) (now (lens .entry)) (now (status .entry)) (now (counts .entry)) (now (settings .entry))) (now (mem .entry)) reg v) ⌝ }
     {
         match reg {
             Register::Status(_) => self.answer(0),
@@ -429,7 +443,10 @@ impl Head {
         v: u8,
     ) -> Headed
         requires { ⌜ Accepted (joined self (now sla) (now lens) (now status) (now counts) (now settings)) (now mem) × Known reg ⌝ }
-        ensures { λ r. ⌜ Writes (λ c. writeOf c reg v) self (now (sla .entry)) (now (lens .entry)) (now (status .entry)) (now (counts .entry)) (now (settings .entry)) r (now (sla .exit)) (now (lens .exit)) (now (status .exit)) (now (counts .exit)) (now (settings .exit)) × (now (mem .exit) ≡ writeStore (joined self (now (sla .entry)) (now (lens .entry)) (now (status .entry)) (now (counts .entry)) (now (settings .entry))) (now (mem .entry)) reg v) ⌝ }
+        ensures { λ r. ⌜ Writes (λ c. writeOf c reg v) self
+            (now (sla .entry)) (now (lens .entry)) (now (status .entry)) (now (counts .entry)) (now (settings .entry))
+            r (now (sla .exit)) (now (lens .exit)) (now (status .exit)) (now (counts .exit)) (now (settings .exit))
+            × (now (mem .exit) ≡ writeStore (joined self (now (sla .entry)) (now (lens .entry)) (now (status .entry)) (now (counts .entry)) (now (settings .entry))) (now (mem .entry)) reg v) ⌝ }
     {
         let n = self.refusal(lens, reg, v);
         if n != 0 {
@@ -449,7 +466,10 @@ impl Head {
         mem: &'a mut [u8],
     ) -> Headed
         requires { ⌜ length (now mem) ≡ 4352 ⌝ }
-        ensures { λ r. ⌜ Writes (λ c. plain fresh) self (now (sla .entry)) (now (lens .entry)) (now (status .entry)) (now (counts .entry)) (now (settings .entry)) r (now (sla .exit)) (now (lens .exit)) (now (status .exit)) (now (counts .exit)) (now (settings .exit)) × (now (mem .exit) ≡ zeros) ⌝ }
+        ensures { λ r. ⌜ Writes (λ c. plain fresh) self
+            (now (sla .entry)) (now (lens .entry)) (now (status .entry)) (now (counts .entry)) (now (settings .entry))
+            r (now (sla .exit)) (now (lens .exit)) (now (status .exit)) (now (counts .exit)) (now (settings .exit))
+            × (now (mem .exit) ≡ zeros) ⌝ }
     {
         rules::wipe(mem);
         *sla = [0; 64];
@@ -473,7 +493,10 @@ impl Head {
         v: u8,
     ) -> Headed
         requires { ⌜ Accepted (joined self (now sla) (now lens) (now status) (now counts) (now settings)) (now mem) × Known reg ⌝ }
-        ensures { λ r. ⌜ Writes (λ c. putOf c reg v) self (now (sla .entry)) (now (lens .entry)) (now (status .entry)) (now (counts .entry)) (now (settings .entry)) r (now (sla .exit)) (now (lens .exit)) (now (status .exit)) (now (counts .exit)) (now (settings .exit)) × (now (mem .exit) ≡ putStore (joined self (now (sla .entry)) (now (lens .entry)) (now (status .entry)) (now (counts .entry)) (now (settings .entry))) (now (mem .entry)) reg v) ⌝ }
+        ensures { λ r. ⌜ Writes (λ c. putOf c reg v) self
+            (now (sla .entry)) (now (lens .entry)) (now (status .entry)) (now (counts .entry)) (now (settings .entry))
+            r (now (sla .exit)) (now (lens .exit)) (now (status .exit)) (now (counts .exit)) (now (settings .exit))
+            × (now (mem .exit) ≡ putStore (joined self (now (sla .entry)) (now (lens .entry)) (now (status .entry)) (now (counts .entry)) (now (settings .entry))) (now (mem .entry)) reg v) ⌝ }
     {
         let preset = rules::is_preset(reg);
         if rules::resets(preset, v, self.key) {

@@ -44,7 +44,10 @@ impl Head {
         v: u8,
     ) -> Headed
         requires { ⌜ Accepted (joined self (now sla) (now lens) (now status) (now counts) (now settings)) (now mem) × KnownPlace place ⌝ }
-        ensures { λ r. ⌜ Writes (λ c. writeAt c place v) self (now (sla .entry)) (now (lens .entry)) (now (status .entry)) (now (counts .entry)) (now (settings .entry)) r (now (sla .exit)) (now (lens .exit)) (now (status .exit)) (now (counts .exit)) (now (settings .exit)) × (now (mem .exit) ≡ storeAt (joined self (now (sla .entry)) (now (lens .entry)) (now (status .entry)) (now (counts .entry)) (now (settings .entry))) (now (mem .entry)) place v) ⌝ }
+        ensures { λ r. ⌜ Writes (λ c. writeAt c place v) self
+            (now (sla .entry)) (now (lens .entry)) (now (status .entry)) (now (counts .entry)) (now (settings .entry))
+            r (now (sla .exit)) (now (lens .exit)) (now (status .exit)) (now (counts .exit)) (now (settings .exit))
+            × (now (mem .exit) ≡ storeAt (joined self (now (sla .entry)) (now (lens .entry)) (now (status .entry)) (now (counts .entry)) (now (settings .entry))) (now (mem .entry)) place v) ⌝ }
     {
         let Place::Here(reg) = place else {
             return self.answer(1);
@@ -91,7 +94,10 @@ impl Head {
         e: Event,
     ) -> Headed
         requires { ⌜ Accepted (joined self (now sla) (now lens) (now status) (now counts) (now settings)) (now mem) ⌝ }
-        ensures { λ r. ⌜ Turns (λ c. eventAt c (now (mem .entry)) number e) self (now (sla .entry)) (now (lens .entry)) (now (status .entry)) (now (counts .entry)) (now (settings .entry)) r (now (status .exit)) (now (counts .exit)) × (now (mem .exit) ≡ eventStore (joined self (now (sla .entry)) (now (lens .entry)) (now (status .entry)) (now (counts .entry)) (now (settings .entry))) (now (mem .entry)) number e) ⌝ }
+        ensures { λ r. ⌜ Turns (λ c. eventAt c (now (mem .entry)) number e) self
+            (now (sla .entry)) (now (lens .entry)) (now (status .entry)) (now (counts .entry)) (now (settings .entry))
+            r (now (status .exit)) (now (counts .exit))
+            × (now (mem .exit) ≡ eventStore (joined self (now (sla .entry)) (now (lens .entry)) (now (status .entry)) (now (counts .entry)) (now (settings .entry))) (now (mem .entry)) number e) ⌝ }
     {
         if 2 < number {
             return self.answer(1);
@@ -113,7 +119,10 @@ impl Head {
         op: Op,
     ) -> Headed
         requires { ⌜ Accepted (joined self (now sla) (now lens) (now status) (now counts) (now settings)) (now mem) ⌝ }
-        ensures { λ r. ⌜ Writes (λ c. servedBy c (now (mem .entry)) number op) self (now (sla .entry)) (now (lens .entry)) (now (status .entry)) (now (counts .entry)) (now (settings .entry)) r (now (sla .exit)) (now (lens .exit)) (now (status .exit)) (now (counts .exit)) (now (settings .exit)) × (now (mem .exit) ≡ servedStore (joined self (now (sla .entry)) (now (lens .entry)) (now (status .entry)) (now (counts .entry)) (now (settings .entry))) (now (mem .entry)) number op) ⌝ }
+        ensures { λ r. ⌜ Writes (λ c. servedBy c (now (mem .entry)) number op) self
+            (now (sla .entry)) (now (lens .entry)) (now (status .entry)) (now (counts .entry)) (now (settings .entry))
+            r (now (sla .exit)) (now (lens .exit)) (now (status .exit)) (now (counts .exit)) (now (settings .exit))
+            × (now (mem .exit) ≡ servedStore (joined self (now (sla .entry)) (now (lens .entry)) (now (status .entry)) (now (counts .entry)) (now (settings .entry))) (now (mem .entry)) number op) ⌝ }
     {
         match op {
             Op::Write(a, v) => {
@@ -130,8 +139,8 @@ impl Head {
 }
 
 impl Channel {
-    // A step of a channel that is in range, for the whole part's step.
-    pub fn serve(self, number: u8, mem: &mut [u8], op: Op) -> Stepped
+    // A step of a channel that is in range.
+    fn serve(self, number: u8, mem: &mut [u8], op: Op) -> Stepped
         requires { ⌜ Accepted self (now mem) ⌝ }
         ensures { λ r. ⌜ (r ≡ servedBy self (now (mem .entry)) number op) × (now (mem .exit) ≡ servedStore self (now (mem .entry)) number op) ⌝ }
     {

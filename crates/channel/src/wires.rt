@@ -7,13 +7,12 @@ ghost use Rattle.rules.specs.Registers.{bitOf};
 ghost use Rattle.rules.specs.Tables.{startOf, Running};
 ghost use Rattle.sequence.specs.Wires.{Exists, Ready, haltedOf, nextOf, restOf, endingOf, againBy};
 ghost use Rattle.sequence.specs.Walk.{idle, nackFlags, errorNoted, lateFlags, lateWalk, faultFlags};
-ghost use Rattle.channel.specs.Head.{joined, told, headWalk, headFlags, inPhase, endedSo, Turns, Counts, Starts, Begins, Walks, Sends};
+ghost use Rattle.channel.specs.Head.{joined, told, headWalk, headFlags, inPhase, endedSo, Writes, Turns, Counts, Starts, Begins, Walks, Sends};
 ghost use Rattle.channel.specs.Range.{inRange};
-ghost use Rattle.channel.specs.Wires.{movedTo, onward, finished, startedBy, started, beganBy, begun, sendOn, ackAddress, ackSending, receiveOn, received, failedBy, nacked, turned, turnStore, beaten, triggered, cleared, haltOf, lengthOf, Counting, Meets};
-use crate::state::Channel;
+ghost use Rattle.channel.specs.Wires.{movedTo, onward, finished, startedBy, started, beganBy, begun, sendOn, ackAddress, ackSending, receiveOn, received, failedBy, nacked};
+ghost use Rattle.channel.specs.Wires.{turned, turnStore, beaten, triggered, cleared, haltOf, lengthOf, Counting, Meets};
 use crate::state::Head;
 use crate::state::Headed;
-use crate::state::Stepped;
 use rules::Phase;
 use sequence::Action;
 use sequence::Beat;
@@ -196,7 +195,9 @@ impl Head {
         settings: &'a [u8; 6],
     ) -> Headed
         requires { ⌜ getD (now lens) 0 0 ≤ 64 ⌝ }
-        ensures { λ r. ⌜ Turns (λ c. started (cleared c)) self (now (sla .entry)) (now (lens .entry)) (now (status .entry)) (now (counts .entry)) (now (settings .entry)) r (now (status .exit)) (now (counts .exit)) ⌝ }
+        ensures { λ r. ⌜ Turns (λ c. started (cleared c)) self
+            (now (sla .entry)) (now (lens .entry)) (now (status .entry)) (now (counts .entry)) (now (settings .entry))
+            r (now (status .exit)) (now (counts .exit)) ⌝ }
     {
         *status = [0; 64];
         *counts = [0; 64];
@@ -213,7 +214,9 @@ impl Head {
         b: Beginning,
     ) -> Headed
         requires { ⌜ getD (now lens) 0 0 ≤ 64 ⌝ }
-        ensures { λ r. ⌜ Turns (λ c. beganBy c b) self (now (sla .entry)) (now (lens .entry)) (now (status .entry)) (now (counts .entry)) (now (settings .entry)) r (now (status .exit)) (now (counts .exit)) ⌝ }
+        ensures { λ r. ⌜ Turns (λ c. beganBy c b) self
+            (now (sla .entry)) (now (lens .entry)) (now (status .entry)) (now (counts .entry)) (now (settings .entry))
+            r (now (status .exit)) (now (counts .exit)) ⌝ }
     {
         match b {
             Beginning::Empty => self.to_idle().answer(0),
@@ -321,7 +324,9 @@ impl Head {
         n: usize,
     ) -> Headed
         requires { ⌜ Counting (now lens) (now counts) n × (length (now mem) ≡ 4352) ⌝ }
-        ensures { λ r. ⌜ Counts (λ c. ackSending c (now (mem .entry)) n) self (now (sla .entry)) (now (lens .entry)) (now (status .entry)) (now (counts .entry)) r (now (status .exit)) (now (counts .exit)) ⌝ }
+        ensures { λ r. ⌜ Counts (λ c. ackSending c (now (mem .entry)) n) self
+            (now (sla .entry)) (now (lens .entry)) (now (status .entry)) (now (counts .entry))
+            r (now (status .exit)) (now (counts .exit)) ⌝ }
     {
         let len = rules::byte(lens[n + 1]);
         let k = rules::byte(counts[n]) + 1;
@@ -379,7 +384,10 @@ impl Head {
         b: u8,
     ) -> Headed
         requires { ⌜ Counting (now lens) (now counts) n × (length (now mem) ≡ 4352) ⌝ }
-        ensures { λ r. ⌜ Counts (λ c. received c n) self (now (sla .entry)) (now (lens .entry)) (now (status .entry)) (now (counts .entry)) r (now (status .exit)) (now (counts .exit)) × (now (mem .exit) ≡ set (now (mem .entry)) (startOf (now (lens .entry)) n + getD (now (counts .entry)) n 0) b) ⌝ }
+        ensures { λ r. ⌜ Counts (λ c. received c n) self
+            (now (sla .entry)) (now (lens .entry)) (now (status .entry)) (now (counts .entry))
+            r (now (status .exit)) (now (counts .exit))
+            × (now (mem .exit) ≡ set (now (mem .entry)) (startOf (now (lens .entry)) n + getD (now (counts .entry)) n 0) b) ⌝ }
     {
         let i = rules::start_of(lens, n) + rules::byte(counts[n]);
         mem[i] = b;
@@ -468,7 +476,10 @@ impl Head {
         t: Turn,
     ) -> Headed
         requires { ⌜ Meets (joined self (now sla) (now lens) (now status) (now counts) (now settings)) t × (length (now mem) ≡ 4352) ⌝ }
-        ensures { λ r. ⌜ Turns (λ c. turned c (now (mem .entry)) t) self (now (sla .entry)) (now (lens .entry)) (now (status .entry)) (now (counts .entry)) (now (settings .entry)) r (now (status .exit)) (now (counts .exit)) × (now (mem .exit) ≡ turnStore (joined self (now (sla .entry)) (now (lens .entry)) (now (status .entry)) (now (counts .entry)) (now (settings .entry))) (now (mem .entry)) t) ⌝ }
+        ensures { λ r. ⌜ Turns (λ c. turned c (now (mem .entry)) t) self
+            (now (sla .entry)) (now (lens .entry)) (now (status .entry)) (now (counts .entry)) (now (settings .entry))
+            r (now (status .exit)) (now (counts .exit))
+            × (now (mem .exit) ≡ turnStore (joined self (now (sla .entry)) (now (lens .entry)) (now (status .entry)) (now (counts .entry)) (now (settings .entry))) (now (mem .entry)) t) ⌝ }
     {
         match t {
             Turn::Unawaited => self.answer(7),
@@ -494,7 +505,9 @@ impl Head {
         b: Beat,
     ) -> Headed
         requires { ⌜ getD (now lens) 0 0 ≤ 64 ⌝ }
-        ensures { λ r. ⌜ Turns (λ c. beaten c b) self (now (sla .entry)) (now (lens .entry)) (now (status .entry)) (now (counts .entry)) (now (settings .entry)) r (now (status .exit)) (now (counts .exit)) ⌝ }
+        ensures { λ r. ⌜ Turns (λ c. beaten c b) self
+            (now (sla .entry)) (now (lens .entry)) (now (status .entry)) (now (counts .entry)) (now (settings .entry))
+            r (now (status .exit)) (now (counts .exit)) ⌝ }
     {
         match b {
             Beat::Quiet => self.answer(0),
@@ -502,29 +515,25 @@ impl Head {
             Beat::Late => self.be_late().answer(0),
         }
     }
-}
 
-impl Channel {
-    // A trigger edge's effect on this channel, for the whole part's step.
-    pub fn trigger(self, edge: Edge) -> Stepped
-        requires { ⌜ inRange self ≡ true ⌝ }
-        ensures { λ r. ⌜ r ≡ triggered self edge ⌝ }
+    // A trigger edge's effect on a channel that is in range, over its tables.
+    pub fn trigger_lent<'a>(
+        self,
+        sla: &'a mut [u8; 64],
+        lens: &'a mut [u8; 65],
+        status: &'a mut [u8; 64],
+        counts: &'a mut [u8; 64],
+        settings: &'a mut [u8; 6],
+        edge: Edge,
+    ) -> Headed
+        requires { ⌜ inRange (joined self (now sla) (now lens) (now status) (now counts) (now settings)) ≡ true ⌝ }
+        ensures { λ r. ⌜ Writes (λ c. triggered c edge) self
+            (now (sla .entry)) (now (lens .entry)) (now (status .entry)) (now (counts .entry)) (now (settings .entry))
+            r (now (sla .exit)) (now (lens .exit)) (now (status .exit)) (now (counts .exit)) (now (settings .exit)) ⌝ }
     {
-        let sla = self.slatable;
-        let lens = self.tranconfig;
-        let mut status = self.status;
-        let mut counts = self.bytecount;
-        let settings = self.settings;
         let walk = self.walk;
         let p = walk.phase;
         let b = sequence::edge_beat(p, self.regs.te, self.regs.tp, edge);
-        let h = self.head();
-        let r = h.beat(&sla, &lens, &mut status, &mut counts, &settings, b);
-        let g = r.head;
-        let answer = r.answer;
-        Stepped {
-            channel: g.join(sla, lens, status, counts, settings),
-            answer,
-        }
+        self.beat(sla, lens, status, counts, settings, b)
     }
 }

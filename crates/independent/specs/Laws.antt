@@ -1,3 +1,3 @@
 -- The proof of the theorem. Nothing here needs to be believed: it is proved.
-pub mod One
 pub mod Apart
+pub mod Mixed

@@ -1,3 +1,4 @@
 pub mod Statement
+pub mod Tasks
 pub mod Laws
 pub mod Theorem

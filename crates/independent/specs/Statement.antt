@@ -1,33 +1,23 @@
 -- DEMAND 3, which document 01 names and does not word: the three channels do not disturb each other. From any accepted state, any mix of three
 -- channels' step lists (each in its own order, no whole-part step) gives each step the same answer and action, and ends in the same state, memory
 -- and interrupt level, as list 0, then 1, then 2.
--- A reader has to believe this page, the page of mixes and runs (crate mixes, specs/Mix.antt), and the rules of a step that the contract of
--- `Part::step` cites (crate part, specs/Step.antt: partStep, partBytes). Theorem.antt says `independent` of every state and mix; that file's
--- last lines and all of Laws/ are proof.
+-- A reader has to believe this page, the page of states (crate works, specs/State.antt), the page of mixes and runs (crate mixes, specs/Mix.antt), and the
+-- rules of a step that the contract of `Part::step` cites (crate part, specs/Step.antt: partStep, partBytes); for steps with a buffer of their own also
+-- Tasks.antt and the page of works (crate works, specs/Work.antt). Theorem.antt says what is proved, of every state, mix and order; the last line of each
+-- statement there and all of Laws/ are proof.
 use Prim.Native.Nat.{ℕ}
-use mathlib.Core.Bool.{true}
 use mathlib.Core.List.{List, _++_}
 use mathlib.Core.Path.{_≡_}
-use lib.ListN.{length}
 use Rattle.mixes.specs.Mix.{Mix, Machine, ends, log, only}
 use Rattle.channel.specs.declared.step.Op.{Op}
 use Rattle.part.specs.declared.map.Step.{Step}
 use Rattle.part.specs.declared.map.Target.{Target}
 use Rattle.part.specs.declared.map.Target.the-variants.{One, All}
-use Rattle.part.specs.declared.state.Part.{Part}
 use Rattle.part.specs.declared.state.PartAnswer.{PartAnswer}
 use Rattle.part.specs.Map.{targetOf}
 use Rattle.part.specs.Registers.{interruptOf}
-use Rattle.part.specs.Step.{accepts, partStep, partBytes}
-
--- a state: the part and the lent memory
-pub record State : Type 0 where
-  pub part : Part
-  pub memory : List ℕ
-
--- an accepted state: no. 9 does not refuse it, so it is in range and has 13,056 bytes
-abbrev pub Accepted : State → Type 0
-Accepted s = accepts (s .part) (length (s .memory)) ≡ true
+use Rattle.part.specs.Step.{partStep, partBytes}
+pub use Rattle.works.specs.State.{State, Accepted}
 
 -- a step of channel c; there is none where the step is one of the whole part
 pub record OfChannel (c : ℕ) (a : Step) : Type 0 where
@@ -47,11 +37,11 @@ thePart = record {
   owner = λ a. ownerOf (targetOf a);
 }
 
--- m, which mixes the lists k, l and n of channels 0, 1 and 2, against k, then l, then n: the same part and memory at the end (`state`), the same
--- interrupt level, and for each step the same answer and action, said twice: each channel's own log is the same (`answers`), and the log of the
--- mixed run is a mix of the logs of the three lists, run one after another (`places`)
-pub record Independent (s : State) (k l n m : List Step) : Type 0 where
-  pub state : ends thePart s m ≡ ends thePart s (k ++ (l ++ n))
-  pub level : interruptOf (ends thePart s m .part) ≡ interruptOf (ends thePart s (k ++ (l ++ n)) .part)
-  pub answers : (c : ℕ) → only thePart c (log thePart s m) ≡ only thePart c (log thePart s (k ++ (l ++ n)))
-  pub places : Mix (Step × PartAnswer) (log thePart s k) (log thePart (ends thePart s k) l) (log thePart (ends thePart (ends thePart s k) l) n) (log thePart s m)
+-- on a machine M (`thePart`; `theBench` of Tasks.antt; `theScript` of crate runner): m, which mixes the lists k, l and n of channels 0, 1 and 2, against k, then l, then n: the same
+-- part and memory at the end (`state`), the same interrupt level, and for each step the same answer and action, said twice: each channel's own log is
+-- the same (`answers`), and the log of the mixed run is a mix of the logs of the three lists, run one after another (`places`)
+pub record Independent {A Ans : Type 0} (M : Machine State A Ans) (s : State) (k l n m : List A) : Type 0 where
+  pub state : ends M s m ≡ ends M s (k ++ (l ++ n))
+  pub level : interruptOf (ends M s m .part) ≡ interruptOf (ends M s (k ++ (l ++ n)) .part)
+  pub answers : (c : ℕ) → only M c (log M s m) ≡ only M c (log M s (k ++ (l ++ n)))
+  pub places : Mix (A × Ans) (log M s k) (log M (ends M s k) l) (log M (ends M (ends M s k) l) n) (log M s m)

@@ -1,6 +1,6 @@
 -- What the theorem on mixed runs speaks of: mixes of three lists, machines, and their runs. A reader has to believe this page, and nothing of
 -- the proof (Laws/).
-use Prim.Native.Nat.{ℕ}
+use Prim.Native.Nat.{ℕ, _<_}
 use mathlib.Core.List.{List, [], _∷_}
 use lib.Dec.{eqb}
 use Rattle.laws.specs.Pick.{if_then_else_}
@@ -17,6 +17,11 @@ pub data Mix (A : Type 0) : List A → List A → List A → List A → Type 0 w
 abbrev pub All : {A : Type 0} → (A → Type 0) → List A → Type 0
 All P [] = Unit {0}
 All P (a ∷ l) = P a × All P l
+
+-- of a list, what is of channel c, in its order; `owner` says which channel an element is of
+abbrev pub listOf : {A : Type 0} → (A → ℕ) → ℕ → List A → List A
+listOf owner c [] = []
+listOf owner c (a ∷ l) = if eqb (owner a) c then a ∷ listOf owner c l else listOf owner c l
 
 -- a machine: what a step answers in a state, the state after it, and which channel it is a step of
 pub record Machine (S Step Ans : Type 0) : Type 0 where
@@ -35,7 +40,14 @@ module _ {S Step Ans : Type 0} where
   log M s [] = []
   log M s (a ∷ l) = (a, M .answer s a) ∷ log M (M .after s a) l
 
+  -- a step of channel 0, 1 or 2
+  abbrev pub OfSome : Machine S Step Ans → Step → Type 0
+  OfSome M a = M .owner a < 3
+
+  -- of a list of steps, those of channel c, in their order
+  abbrev pub stepsOf : Machine S Step Ans → ℕ → List Step → List Step
+  stepsOf M c l = listOf (M .owner) c l
+
   -- of a log, what concerns channel c
   abbrev pub only : Machine S Step Ans → ℕ → List (Step × Ans) → List (Step × Ans)
-  only M c [] = []
-  only M c (x ∷ l) = if eqb (M .owner (x .0)) c then x ∷ only M c l else only M c l
+  only M c l = listOf (λ x. M .owner (x .0)) c l

@@ -6,3 +6,4 @@ pub mod Memory
 pub mod Range
 pub mod Kept
 pub mod Apart
+pub mod Rows

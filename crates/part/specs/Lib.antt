@@ -2,4 +2,5 @@ pub mod State
 pub mod Map
 pub mod Registers
 pub mod Step
+pub mod Rows
 pub mod Laws

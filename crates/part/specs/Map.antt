@@ -10,7 +10,7 @@ use Rattle.part.specs.declared.map.Ctrl.{Ctrl}
 use Rattle.part.specs.declared.map.Ctrl.the-variants.{Ctrlstatus, Ctrlintmsk, Reserved, DeviceId, Ctrlpreset, Nothing, Ctrlrdy}
 use Rattle.part.specs.declared.map.Target.{Target}
 use Rattle.part.specs.declared.map.Target.the-variants.{One, All}
-use Rattle.part.specs.declared.map.Common.the-variants.{CtrlWrite, CtrlRead, AllTrigger, AllReset, Beyond}
+use Rattle.part.specs.declared.map.Wide.the-variants.{CtrlWrite, CtrlRead, AllTrigger, AllReset, Beyond}
 
 -- 64c + n is channel c's, C0h, D0h and E0h + 0 to Fh are channel 0's, 1's and 2's; 3 stands for the whole part, F0h to FFh
 unfoldable pub channelAt : ℕ → ℕ

@@ -17,13 +17,14 @@ use Rattle.channel.specs.Step.{servedBy, servedStore}
 use Rattle.channel.specs.Wires.{triggered}
 use Rattle.part.specs.declared.state.Act.{Act}
 use Rattle.part.specs.declared.state.Part.{Part}
+use Rattle.part.specs.declared.state.PartAnswer.{PartAnswer}
 use Rattle.part.specs.declared.state.PartStepped.{PartStepped}
-use Rattle.part.specs.declared.state.Told.{Told}
+use Rattle.part.specs.declared.rows.Common.{Common}
 use Rattle.part.specs.declared.map.Step.{Step}
 use Rattle.part.specs.declared.map.Target.{Target}
-use Rattle.part.specs.declared.map.Common.{Common}
+use Rattle.part.specs.declared.map.Wide.{Wide}
 use Rattle.part.specs.declared.map.Target.the-variants.{One, All}
-use Rattle.part.specs.declared.map.Common.the-variants.{CtrlWrite, CtrlRead, AllTrigger, AllReset, Beyond}
+use Rattle.part.specs.declared.map.Wide.the-variants.{CtrlWrite, CtrlRead, AllTrigger, AllReset, Beyond}
 use Rattle.part.specs.State.{freshPart, wiped, told, refusedPart, plainPart, onlyAt, chan, window, putWindow}
 use Rattle.part.specs.Map.{targetOf}
 use Rattle.part.specs.Registers.{ctrlRead, ctrlPut, ctrlStore}
@@ -40,23 +41,25 @@ keyKept (Write a v) key = false
 keyKept (Read a) key = key
 keyKept (Wire e) key = key
 
--- what channel c's answer a is to the part: BE, the key, and its number, its value and its action
-abbrev pub toldBy : Bool → Bool → ℕ → Op → Answer → Told
-toldBy be key c op a = record {
-  be = beAfter be (a .number);
-  key = keyKept op key;
-  answer = record { number = a .number; value = a .value; actions = onlyAt c (a .action) };
-}
+-- what channel c's answer a is to the part: BE and the key of CTRLPRESET after it
+abbrev pub commonAfter : Common → Op → Answer → Common
+commonAfter k op a = record { be = beAfter (k .be) (a .number); mask = k .mask; key = keyKept op (k .key) }
 
--- the part with a record of channel c, and with what is told of it
-abbrev pub oneAfter : Part → ℕ → Channel → Told → Part
-oneAfter p c r t = record { channels = set (p .channels) c r; be = t .be; mask = p .mask; key = t .key }
+-- and the part's answer: its number, its value and its action
+abbrev pub answerAt : ℕ → Answer → PartAnswer
+answerAt c a = record { number = a .number; value = a .value; actions = onlyAt c (a .action) }
+
+-- the part with a record of channel c, and with what it has beside its channels
+abbrev pub oneAfter : Part → ℕ → Channel → Common → Part
+oneAfter p c r t = record { channels = set (p .channels) c r; be = t .be; mask = t .mask; key = t .key }
+
+-- what the part has beside its channels
+abbrev pub commonOf : Part → Common
+commonOf p = record { be = p .be; mask = p .mask; key = p .key }
 
 -- the part after channel c answered r
 abbrev pub oneTold : Part → ℕ → Op → Stepped → PartStepped
-oneTold p c op r =
-    let t = toldBy (p .be) (p .key) c op (r .answer) in
-    record { part = oneAfter p c (r .channel) t; answer = t .answer }
+oneTold p c op r = record { part = oneAfter p c (r .channel) (commonAfter (commonOf p) op (r .answer)); answer = answerAt c (r .answer) }
 
 -- each channel works on its own 4,352 bytes
 unfoldable pub oneStep : Part → List ℕ → ℕ → Op → PartStepped
@@ -89,7 +92,7 @@ triggerStep p edge =
     0 0 (map (edgeAct edge) (p .channels))
 
 -- ---- a step of the whole part; no. 1 for a channel above 2; the hardware reset does what CTRLPRESET does
-unfoldable pub allServed : Part → Common → PartStepped
+unfoldable pub allServed : Part → Wide → PartStepped
 allServed p (CtrlWrite reg v) = ctrlPut p reg v
 allServed p (CtrlRead reg) = ctrlRead p reg
 allServed p (AllTrigger edge) = triggerStep p edge
@@ -97,7 +100,7 @@ allServed p AllReset = plainPart freshPart
 allServed p Beyond = refusedPart p 1
 
 -- and the bytes
-unfoldable pub allStored : Part → List ℕ → Common → List ℕ
+unfoldable pub allStored : Part → List ℕ → Wide → List ℕ
 allStored p m (CtrlWrite reg v) = ctrlStore p m reg v
 allStored p m (CtrlRead reg) = m
 allStored p m (AllTrigger edge) = m

@@ -26,7 +26,7 @@ pub enum Ctrl {
 }
 
 // A step of the whole part: a write or a read of its registers, a trigger edge, the hardware reset, or nobody's (an event of a channel above 2).
-pub enum Common {
+pub enum Wide {
     CtrlWrite(Ctrl, u8),
     CtrlRead(Ctrl),
     AllTrigger(Edge),
@@ -37,7 +37,7 @@ pub enum Common {
 // Whom a step concerns: one channel, by what is asked of it and its number, or all.
 pub enum Target {
     One(Op, u8),
-    All(Common),
+    All(Wide),
 }
 
 fn channel_at(a: u8) -> u8
@@ -73,7 +73,7 @@ fn write_target(a: u8, v: u8) -> Target
     if c < 3 {
         Target::One(Op::Write(a, v), c)
     } else {
-        Target::All(Common::CtrlWrite(ctrl_at(a), v))
+        Target::All(Wide::CtrlWrite(ctrl_at(a), v))
     }
 }
 
@@ -84,7 +84,7 @@ fn read_target(a: u8) -> Target
     if c < 3 {
         Target::One(Op::Read(a), c)
     } else {
-        Target::All(Common::CtrlRead(ctrl_at(a)))
+        Target::All(Wide::CtrlRead(ctrl_at(a)))
     }
 }
 
@@ -94,7 +94,7 @@ fn wire_target(c: u8, e: Event) -> Target
     if c < 3 {
         Target::One(Op::Wire(e), c)
     } else {
-        Target::All(Common::Beyond)
+        Target::All(Wide::Beyond)
     }
 }
 
@@ -106,7 +106,7 @@ pub fn target_of(s: Step) -> Target
         Step::Write(a, v) => write_target(a, v),
         Step::Read(a) => read_target(a),
         Step::Wire(c, e) => wire_target(c, e),
-        Step::Trigger(edge) => Target::All(Common::AllTrigger(edge)),
-        Step::Reset => Target::All(Common::AllReset),
+        Step::Trigger(edge) => Target::All(Wide::AllTrigger(edge)),
+        Step::Reset => Target::All(Wide::AllReset),
     }
 }

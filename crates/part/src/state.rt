@@ -1,7 +1,7 @@
 // The record of the part, and what a step answers.
 ghost use mathlib.Core.Path.{_≡_};
 ghost use Prim.Native.Nat.{_<_};
-ghost use Rattle.part.specs.State.{freshPart, told, numberedPart, repliedPart, quiet, actIf, onlyAt, withBe, withMask, withKey};
+ghost use Rattle.part.specs.State.{freshPart, numberedPart, quiet, actIf, onlyAt};
 use channel::Channel;
 use sequence::Action;
 
@@ -23,13 +23,6 @@ pub struct PartAnswer {
     pub number: u8,
     pub value: u8,
     pub actions: [Act; 3],
-}
-
-// What a channel's step is to the part, beside its record and its bytes: BE and the key of CTRLPRESET after it, and the answer.
-pub struct Told {
-    pub be: bool,
-    pub key: bool,
-    pub answer: PartAnswer,
 }
 
 // What a step gives back: the part, and its answer.
@@ -86,55 +79,17 @@ impl Part {
         }
     }
 
-    // The part with an answer of these actions.
-    fn tell(self, number: u8, value: u8, actions: [Act; 3]) -> PartStepped
-        ensures { λ r. ⌜ r ≡ told self number value actions ⌝ }
+    // The part with an answer's number and nothing else.
+    pub(crate) fn answer(self, number: u8) -> PartStepped
+        ensures { λ r. ⌜ r ≡ numberedPart self number ⌝ }
     {
         PartStepped {
             part: self,
             answer: PartAnswer {
                 number,
-                value,
-                actions,
+                value: 0,
+                actions: no_acts(),
             },
         }
-    }
-
-    // The part with an answer's number and nothing else.
-    pub(crate) fn answer(self, number: u8) -> PartStepped
-        ensures { λ r. ⌜ r ≡ numberedPart self number ⌝ }
-    {
-        self.tell(number, 0, no_acts())
-    }
-
-    // The part with the value of a read.
-    pub(crate) fn reply(self, value: u8) -> PartStepped
-        ensures { λ r. ⌜ r ≡ repliedPart self value ⌝ }
-    {
-        self.tell(0, value, no_acts())
-    }
-
-    pub(crate) fn with_be(self, be: bool) -> Part
-        ensures { λ r. ⌜ r ≡ withBe self be ⌝ }
-    {
-        let mut p = self;
-        p.be = be;
-        p
-    }
-
-    pub(crate) fn with_mask(self, mask: u8) -> Part
-        ensures { λ r. ⌜ r ≡ withMask self mask ⌝ }
-    {
-        let mut p = self;
-        p.mask = mask;
-        p
-    }
-
-    pub(crate) fn with_key(self, key: bool) -> Part
-        ensures { λ r. ⌜ r ≡ withKey self key ⌝ }
-    {
-        let mut p = self;
-        p.key = key;
-        p
     }
 }

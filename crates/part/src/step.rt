@@ -2,55 +2,27 @@
 ghost use mathlib.Core.Bool.{true};
 ghost use mathlib.Core.Path.{_≡_};
 ghost use Prim.Native.Nat.{_<_};
-ghost use Rattle.part.specs.Map.{InPart};
-ghost use Rattle.part.specs.Step.{beAfter, keyKept, toldBy, oneStep, oneBytes, triggerStep, allServed, allStored, partServed, partStored, maskIn, channelsIn, partIn, accepts, partStep, partBytes, Whole};
-use crate::map::Common;
+ghost use Rattle.part.specs.Registers.{interruptOf};
+ghost use Rattle.part.specs.Step.{beAfter, keyKept, maskIn, channelsIn, partIn, accepts, partStep, partBytes, Whole};
 use crate::map::Step;
-use crate::map::Target;
-use crate::map::target_of;
-use crate::registers::reset;
-use crate::state::Act;
+use crate::rows::spread;
 use crate::state::Part;
-use crate::state::PartAnswer;
 use crate::state::PartStepped;
-use crate::state::Told;
-use crate::state::act_at;
-use crate::state::no_acts;
-use channel::Answer;
 use channel::Op;
-use sequence::Edge;
 
-fn be_after(be: bool, number: u8) -> bool
+pub(crate) fn be_after(be: bool, number: u8) -> bool
     ensures { λ r. ⌜ r ≡ beAfter be number ⌝ }
 {
     if number == 5 { true } else { be }
 }
 
-fn key_kept(op: Op, key: bool) -> bool
+pub(crate) fn key_kept(op: Op, key: bool) -> bool
     ensures { λ r. ⌜ r ≡ keyKept op key ⌝ }
 {
     match op {
         Op::Write(_, _) => false,
         Op::Read(_) => key,
         Op::Wire(_) => key,
-    }
-}
-
-// What an answer of channel c is to the part.
-pub fn tell_one(be: bool, key: bool, c: u8, op: Op, a: Answer) -> Told
-    requires { ⌜ c < 3 ⌝ }
-    ensures { λ r. ⌜ r ≡ toldBy be key c op a ⌝ }
-{
-    let action = a.action;
-    let actions = act_at(c, action);
-    Told {
-        be: be_after(be, a.number),
-        key: key_kept(op, key),
-        answer: PartAnswer {
-            number: a.number,
-            value: a.value,
-            actions,
-        },
     }
 }
 
@@ -61,93 +33,6 @@ fn mask_in(mask: u8) -> bool
 }
 
 impl Part {
-    // A step of channel c, on its own 4,352 bytes.
-    fn one(self, mem: &mut [u8], c: u8, op: Op) -> PartStepped
-        requires { ⌜ Whole self (now mem) × (c < 3) ⌝ }
-        ensures { λ r. ⌜ (r ≡ oneStep self (now (mem .entry)) c op) × (now (mem .exit) ≡ oneBytes self (now (mem .entry)) c op) ⌝ }
-    {
-        let i = c as usize;
-        let start = 4352 * i;
-        let end = start + 4352;
-        let mut channels = self.channels;
-        let s = channels[i];
-        let r = s.serve(c, &mut mem[start..end], op);
-        let t = r.channel;
-        channels[i] = t;
-        let a = r.answer;
-        let told = tell_one(self.be, self.key, c, op, a);
-        let answer = told.answer;
-        PartStepped {
-            part: Part {
-                channels,
-                be: told.be,
-                mask: self.mask,
-                key: told.key,
-            },
-            answer,
-        }
-    }
-
-    // A trigger edge over all three channels, with an action for each.
-    fn trigger(self, edge: Edge) -> PartStepped
-        requires { ⌜ partIn self ≡ true ⌝ }
-        ensures { λ r. ⌜ r ≡ triggerStep self edge ⌝ }
-    {
-        let mut channels = self.channels;
-        let mut actions = no_acts();
-        let mut be = self.be;
-        let mut i = 0;
-        while i < 3 {
-            let s = channels[i];
-            let r = s.trigger(edge);
-            let t = r.channel;
-            channels[i] = t;
-            let a = r.answer;
-            let action = a.action;
-            let act = Act { action };
-            actions[i] = act;
-            be = be_after(be, a.number);
-            i += 1;
-        }
-        PartStepped {
-            part: Part {
-                channels,
-                be,
-                mask: self.mask,
-                key: self.key,
-            },
-            answer: PartAnswer {
-                number: 0,
-                value: 0,
-                actions,
-            },
-        }
-    }
-
-    // A step of the whole part.
-    pub fn serve_all(self, mem: &mut [u8], t: Common) -> PartStepped
-        requires { ⌜ Whole self (now mem) ⌝ }
-        ensures { λ r. ⌜ (r ≡ allServed self t) × (now (mem .exit) ≡ allStored self (now (mem .entry)) t) ⌝ }
-    {
-        match t {
-            Common::CtrlWrite(reg, v) => self.put_ctrl(mem, reg, v),
-            Common::CtrlRead(reg) => self.read_ctrl(reg),
-            Common::AllTrigger(edge) => self.trigger(edge),
-            Common::AllReset => reset(mem),
-            Common::Beyond => self.answer(1),
-        }
-    }
-
-    fn serve(self, mem: &mut [u8], t: Target) -> PartStepped
-        requires { ⌜ Whole self (now mem) × InPart t ⌝ }
-        ensures { λ r. ⌜ (r ≡ partServed self (now (mem .entry)) t) × (now (mem .exit) ≡ partStored self (now (mem .entry)) t) ⌝ }
-    {
-        match t {
-            Target::One(op, c) => self.one(mem, c, op),
-            Target::All(w) => self.serve_all(mem, w),
-        }
-    }
-
     fn channels_in(self) -> bool
         ensures { λ r. ⌜ r ≡ channelsIn (self .channels) ⌝ }
     {
@@ -180,13 +65,46 @@ impl Part {
         if len == 13056 { self.in_range() } else { false }
     }
 
-    // A step of a part and a memory that no. 9 does not refuse.
+    // A step of a part and a memory that no. 9 does not refuse: the part is taken apart for it, and put together again.
     fn advance(self, mem: &mut [u8], s: Step) -> PartStepped
         requires { ⌜ Whole self (now mem) ⌝ }
         ensures { λ r. ⌜ (r ≡ partStep self (now (mem .entry)) s) × (now (mem .exit) ≡ partBytes self (now (mem .entry)) s) ⌝ }
     {
-        let t = target_of(s);
-        self.serve(mem, t)
+        let mut sla = [[0u8; 64]; 3];
+        let mut lens = [[0u8; 65]; 3];
+        let mut status = [[0u8; 64]; 3];
+        let mut counts = [[0u8; 64]; 3];
+        let mut settings = [[0u8; 6]; 3];
+        let h = spread(
+            self,
+            &mut sla,
+            &mut lens,
+            &mut status,
+            &mut counts,
+            &mut settings,
+        );
+        let r = h.advance(
+            &mut sla,
+            &mut lens,
+            &mut status,
+            &mut counts,
+            &mut settings,
+            mem,
+            s,
+        );
+        let g = r.heads;
+        let answer = r.answer;
+        PartStepped {
+            part: g.gather(&sla, &lens, &status, &counts, &settings),
+            answer,
+        }
+    }
+
+    // Whether INT is pulled.
+    pub fn interrupt(self) -> bool
+        ensures { λ r. ⌜ r ≡ interruptOf self ⌝ }
+    {
+        self.heads().interrupt_level()
     }
 
     // One step of the part, at any record and any memory.

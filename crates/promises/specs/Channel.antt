@@ -2,7 +2,7 @@
 use Prim.Native.Nat.{ℕ}
 use mathlib.Core.Bool.{Bool}
 use mathlib.Core.List.{List}
-use mathlib.Core.Path.{_≡_}
+use mathlib.Core.Path.{_≡_, ap}
 use Rattle.channel.specs.declared.state.Channel.{Channel}
 use Rattle.channel.specs.declared.state.Head.{Head}
 use Rattle.channel.specs.declared.state.Headed.{Headed}
@@ -31,27 +31,29 @@ pub join-once : (self : Head) (sla lens status counts settings : List ℕ) → O
 join-once self sla lens status counts settings = no-second (λ r h. h)
 
 -- ---- step.rt
--- what is told of the whole channel tells each part: the head, and each table
-pub serve-lent-once : (self : Head) (sla lens status counts settings : List ℕ) (number : ℕ) (mem : List ℕ) (op : Op) → Once (Headed × List ℕ × List ℕ × List ℕ × List ℕ × List ℕ × List ℕ) (λ (r, sla′, lens′, status′, counts′, settings′, mem′). Writes (λ c. servedBy c mem number op) self sla lens status counts settings r sla′ lens′ status′ counts′ settings′ × (mem′ ≡ servedStore (joined self sla lens status counts settings) mem number op))
+-- what is told of the whole channel tells each part of it: the head, with the answer, and each table
+abbrev apart : Stepped → Headed × List ℕ × List ℕ × List ℕ × List ℕ × List ℕ
+apart s =
+    let c = s .channel in
+    (record { head = headOf c; answer = s .answer }, c .slatable, c .tranconfig, c .status, c .bytecount, c .settings)
+
+pub serve-lent-once : (self : Head) (sla lens status counts settings : List ℕ) (number : ℕ) (mem : List ℕ) (op : Op)
+    → Once (Headed × List ℕ × List ℕ × List ℕ × List ℕ × List ℕ × List ℕ)
+    (λ (r, sla′, lens′, status′, counts′, settings′, mem′).
+    Writes (λ c. servedBy c mem number op) self sla lens status counts settings r sla′ lens′ status′ counts′ settings′
+    × (mem′ ≡ servedStore (joined self sla lens status counts settings) mem number op))
 serve-lent-once self sla lens status counts settings number mem op =
     no-second (λ o h. λ i.
-    let s = h .0 i in
-    let c = s .channel in (
-      record { head = record { regs = c .regs; flags = c .flags; ptrs = c .ptrs; walk = c .walk; key = c .key }; answer = s .answer },
-      c .slatable,
-      c .tranconfig,
-      c .status,
-      c .bytecount,
-      c .settings,
-      h .1 i,
-    ))
+    let t = apart (h .0 i) in
+    (t .0, t .1, t .2, t .3, t .4, t .5, h .1 i))
 
-pub serve-once : (self : Channel) (number : ℕ) (mem : List ℕ) (op : Op) → Once (Stepped × List ℕ) (λ (r, mem′). (r ≡ servedBy self mem number op) × (mem′ ≡ servedStore self mem number op))
-serve-once self number mem op = no-second (λ o h. both (h .0) (h .1))
-
-pub step-once : (self : Channel) (number : ℕ) (mem : List ℕ) (op : Op) → Once (Stepped × List ℕ) (λ (r, mem′). (r ≡ stepOf self mem number op) × (mem′ ≡ bytesAfter self mem number op))
+pub step-once : (self : Channel) (number : ℕ) (mem : List ℕ) (op : Op)
+    → Once (Stepped × List ℕ) (λ (r, mem′). (r ≡ stepOf self mem number op) × (mem′ ≡ bytesAfter self mem number op))
 step-once self number mem op = no-second (λ o h. both (h .0) (h .1))
 
 -- ---- wires.rt
-pub trigger-once : (self : Channel) (edge : Edge) → Once Stepped (λ r. r ≡ triggered self edge)
-trigger-once self edge = no-second (λ r h. h)
+pub trigger-lent-once : (self : Head) (sla lens status counts settings : List ℕ) (edge : Edge)
+    → Once (Headed × List ℕ × List ℕ × List ℕ × List ℕ × List ℕ)
+    (λ (r, sla′, lens′, status′, counts′, settings′).
+    Writes (λ c. triggered c edge) self sla lens status counts settings r sla′ lens′ status′ counts′ settings′)
+trigger-lent-once self sla lens status counts settings edge = no-second (λ o h. ap apart h)

@@ -3,7 +3,6 @@ pub mod Rules
 pub mod Sequence
 pub mod Channel
 pub mod Part
-pub mod Rows
 pub mod Script
 pub mod Lent
 pub mod Runner

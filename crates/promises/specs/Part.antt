@@ -1,50 +1,80 @@
 -- No second outcome of crate part: a statement for each public function.
 use Prim.Native.Nat.{ℕ}
 use mathlib.Core.Bool.{Bool}
-use mathlib.Core.List.{List}
+use mathlib.Core.List.{List, []}
 use mathlib.Core.Path.{_≡_}
-use Rattle.rules.specs.declared.state.Flags.{Flags}
-use Rattle.channel.specs.declared.state.Answer.{Answer}
+use Rattle.channel.specs.declared.state.Head.{Head}
 use Rattle.channel.specs.declared.step.Op.{Op}
-use Rattle.part.specs.declared.map.Common.{Common}
 use Rattle.part.specs.declared.map.Step.{Step}
 use Rattle.part.specs.declared.map.Target.{Target}
+use Rattle.part.specs.declared.map.Wide.{Wide}
+use Rattle.part.specs.declared.rows.Common.{Common}
+use Rattle.part.specs.declared.rows.Heads.{Heads}
+use Rattle.part.specs.declared.rows.HeadsStepped.{HeadsStepped}
+use Rattle.part.specs.declared.rows.OneStepped.{OneStepped}
 use Rattle.part.specs.declared.state.Part.{Part}
 use Rattle.part.specs.declared.state.PartStepped.{PartStepped}
-use Rattle.part.specs.declared.state.Told.{Told}
 use Rattle.part.specs.Map.{targetOf, InPart}
-use Rattle.part.specs.Registers.{interruptOf, pendingOf, pulledBy}
+use Rattle.part.specs.Registers.{interruptOf}
 use Rattle.part.specs.State.{freshPart}
-use Rattle.part.specs.Step.{toldBy, allServed, allStored, partIn, partStep, partBytes}
+use Rattle.part.specs.Step.{allServed, allStored, partIn, partStep, partBytes}
+use Rattle.part.specs.Rows.{Rows, asRows, gathered, Holds, Gives, Pulls, OneGives}
 use Rattle.promises.specs.Promise.{Once, no-second, both}
 
 -- ---- map.rt
 pub target-of-once : (s : Step) → Once Target (λ r. (r ≡ targetOf s) × InPart r)
 target-of-once s = no-second (λ r h. h .0)
 
--- ---- registers.rt
-pub pending-once : (f : Flags) (mask : ℕ) → Once Bool (λ r. r ≡ pendingOf f mask)
-pending-once f mask = no-second (λ r h. h)
+-- ---- rows.rt
+-- a table of all channels, with a row for each
+abbrev Table : Type 0
+Table = List (List ℕ)
 
-pub pulled-once : (be : Bool) (mask : ℕ) (first second third : Bool) → Once Bool (λ r. r ≡ pulledBy be mask first second third)
-pulled-once be mask first second third = no-second (λ r h. h)
+pub spread-once : (part : Part) (sla lens status counts settings : Table) → Once (Heads × Table × Table × Table × Table × Table)
+    (λ (r, sla′, lens′, status′, counts′, settings′). Holds part r (asRows sla′ lens′ status′ counts′ settings′))
+spread-once part sla lens status counts settings =
+    no-second (λ o h. λ i.
+    let t = h .rows i in
+    (h .heads i, t .sla, t .lens, t .status, t .counts, t .settings))
 
-pub interrupt-once : (self : Part) → Once Bool (λ r. r ≡ interruptOf self)
-interrupt-once self = no-second (λ r h. h)
+pub gather-once : (self : Heads) (sla lens status counts settings : Table)
+    → Once Part (λ r. r ≡ gathered self (asRows sla lens status counts settings))
+gather-once self sla lens status counts settings = no-second (λ r h. h)
+
+pub interrupt-level-once : (self : Heads) → Once Bool (λ r. Pulls self r)
+interrupt-level-once self = no-second (λ r h. h (asRows [] [] [] [] []))
+
+pub all-once : (self : Heads) (sla lens status counts settings : Table) (mem : List ℕ) (t : Wide)
+    → Once (HeadsStepped × Table × Table × Table × Table × Table × List ℕ)
+    (λ (r, sla′, lens′, status′, counts′, settings′, mem′).
+    Gives (allServed (gathered self (asRows sla lens status counts settings)) t) r (asRows sla′ lens′ status′ counts′ settings′)
+    × (mem′ ≡ allStored (gathered self (asRows sla lens status counts settings)) mem t))
+all-once self sla lens status counts settings mem t =
+    no-second (λ o h. λ i.
+    let given = h .0 in
+    let t = given .holds .rows i in
+    (record { heads = given .holds .heads i; answer = given .answer i }, t .sla, t .lens, t .status, t .counts, t .settings, h .1 i))
+
+pub one-once : (h : Head) (k : Common) (sla lens status counts settings : Table) (mem : List ℕ) (c : ℕ) (op : Op)
+    → Once (OneStepped × Table × Table × Table × Table × Table × List ℕ)
+    (λ (r, sla′, lens′, status′, counts′, settings′, mem′).
+    OneGives h k (asRows sla lens status counts settings) mem c op r (asRows sla′ lens′ status′ counts′ settings′) mem′)
+one-once h k sla lens status counts settings mem c op =
+    no-second (λ o h. λ i.
+    let t = h .rows i in
+    (h .given i, t .sla, t .lens, t .status, t .counts, t .settings, h .memory i))
 
 -- ---- state.rt
 pub new-once : Once Part (λ r. r ≡ freshPart)
 new-once = no-second (λ r h. h)
 
 -- ---- step.rt
-pub tell-one-once : (be key : Bool) (c : ℕ) (op : Op) (a : Answer) → Once Told (λ r. r ≡ toldBy be key c op a)
-tell-one-once be key c op a = no-second (λ r h. h)
-
-pub serve-all-once : (self : Part) (mem : List ℕ) (t : Common) → Once (PartStepped × List ℕ) (λ (r, mem′). (r ≡ allServed self t) × (mem′ ≡ allStored self mem t))
-serve-all-once self mem t = no-second (λ o h. both (h .0) (h .1))
-
 pub in-range-once : (self : Part) → Once Bool (λ r. r ≡ partIn self)
 in-range-once self = no-second (λ r h. h)
 
-pub step-once : (self : Part) (mem : List ℕ) (s : Step) → Once (PartStepped × List ℕ) (λ (r, mem′). (r ≡ partStep self mem s) × (mem′ ≡ partBytes self mem s))
+pub interrupt-once : (self : Part) → Once Bool (λ r. r ≡ interruptOf self)
+interrupt-once self = no-second (λ r h. h)
+
+pub step-once : (self : Part) (mem : List ℕ) (s : Step)
+    → Once (PartStepped × List ℕ) (λ (r, mem′). (r ≡ partStep self mem s) × (mem′ ≡ partBytes self mem s))
 step-once self mem s = no-second (λ o h. both (h .0) (h .1))

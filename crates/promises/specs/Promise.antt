@@ -1,5 +1,6 @@
 -- Document 01, 'How tight the promises are': no second outcome satisfies the same promise. The files beside this one say it of each public function,
--- by its `ensures` clause, letter by letter: what is lent as `mem` is written for its value at entry, and `mem′` for that at exit.
+-- by its `ensures` clause, letter by letter: what is lent as `mem` is written for its value at entry, and `mem′` for that at exit. A word that takes what is
+-- lent whole stands as its definition: `rowsLeft sla ..` as `asRows sla′ ..`.
 use mathlib.Core.Path.{_≡_, _∙_, sym}
 
 -- the promise P of an outcome in A is met once: two outcomes that satisfy it are equal

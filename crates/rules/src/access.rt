@@ -1,6 +1,7 @@
 // Document 01, 'Numbers that an answer carries': refusals of an access to a register, pointers, and the reset key.
 ghost use mathlib.Core.Path.{_≡_};
-ghost use Rattle.rules.specs.Access.{busyRefusal, lockedOf, pastRefusal, tooMany, placeRefusal, slaRefusal, confRefusal, dataRefusal, selRefusal, keptIf, rewound, atMost, pointedAt, overrunOf, presetOf, keyAfter, resetsOf};
+ghost use Rattle.rules.specs.Access.{busyRefusal, lockedOf, pastRefusal, tooMany, placeRefusal, slaRefusal, confRefusal, dataRefusal, selRefusal};
+ghost use Rattle.rules.specs.Access.{keptIf, rewound, atMost, pointedAt, overrunOf, presetOf, keyAfter, resetsOf};
 use crate::registers::Register;
 use crate::registers::active;
 use crate::state::Phase;

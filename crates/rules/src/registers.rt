@@ -1,7 +1,8 @@
 // Document 01, 'The part as the processor sees it': where a channel's registers stand, and the bits of CONTROL, CHSTATUS and INTMSK.
 ghost use mathlib.Core.Path.{_≡_};
 ghost use Prim.Native.Nat.{_<_, _≤_};
-ghost use Rattle.rules.specs.Registers.{settingAt, tableAt, registerAt, Known, statusPlace, registerPlace, placeOf, KnownPlace, activeOf, bitOf, commandOf, weigh, controlValue, chstatusValue, maskKept};
+ghost use Rattle.rules.specs.Registers.{settingAt, tableAt, registerAt, Known, statusPlace, registerPlace, placeOf, KnownPlace};
+ghost use Rattle.rules.specs.Registers.{activeOf, bitOf, commandOf, weigh, controlValue, chstatusValue, maskKept};
 use crate::state::Flags;
 use crate::state::Phase;
 

@@ -1,4 +1,7 @@
-pub mod Bytes
 pub mod Run
-pub mod Mixed
+pub mod Text
+pub mod Lines
+pub mod Performing
+pub mod Feeding
+pub mod Spoken
 pub mod Laws

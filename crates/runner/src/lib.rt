@@ -1,6 +1,11 @@
-// The part run over lists of steps in bytes: four bytes to a step, eight to an answer.
-mod bytes;
-mod running;
+// A script run on the part: the lines of a block of bytes, each a step, and the text of their answers.
+mod answering;
+mod lines;
 
-pub use running::Ran;
-pub use running::run;
+pub use answering::Course;
+pub use answering::answer_lines;
+pub use lines::Start;
+pub use lines::kept;
+pub use lines::lengthen;
+pub use lines::no_line;
+pub use lines::put_start;

@@ -102,9 +102,12 @@ answerLine step reply int =
 abbrev pub header : List ℕ
 header = ascii "step code value int actions\n"
 
--- a line has at most 51 bytes; it is put only where 80 are left
+-- a line has at most 51 bytes; it is put only where so many are left
+abbrev pub answerRoom : ℕ
+answerRoom = 80
+
 abbrev pub roomy : ℕ → ℕ → Bool
-roomy len at = leb (at + 80) len
+roomy len at = leb (at + answerRoom) len
 
 -- the answer to a line that can't be read: no. 8, value 00, no action
 abbrev pub noAnswer : PartAnswer

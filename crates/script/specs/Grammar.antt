@@ -13,6 +13,11 @@ use Rattle.script.specs.Ascii.{ascii}
 use Rattle.script.specs.declared.reading.Line.{Line}
 use Rattle.script.specs.declared.reading.Line.the-variants.{Readable, Unreadable}
 
+-- every form below is shorter: the longest, `E c BYTE bb`, has 11 bytes, and there is room for a longer one. So a line of so many bytes or more can't be
+-- read, and its first bytes, so many, are read as it is (`first-bytes`, Laws/Grammar.antt). It is shut: laws go by its name
+unfoldable pub lineRoom : ℕ
+lineRoom = 16
+
 -- upper-case hex: 0 to 9 stand at 48 to 57, A to F at 65 to 70
 unfoldable pub isHex : ℕ → Bool
 isHex b = if ltb b 58 then leb 48 b else if ltb b 71 then leb 65 b else false

@@ -2,8 +2,10 @@
 mod reading;
 mod writing;
 
+pub use reading::LINE_ROOM;
 pub use reading::Line;
 pub use reading::read_line;
+pub use writing::ANSWER_ROOM;
 pub use writing::put;
 pub use writing::unreadable;
 pub use writing::write_answer;

@@ -1,10 +1,13 @@
 // A line of the script: the step that it asks for, or that it can't be read.
 ghost use mathlib.Core.Path.{_≡_};
 ghost use Prim.Native.Nat.{_<_};
-ghost use Rattle.script.specs.Grammar.{isHex, hexOf, digitAt, byteAt, suiting, fitting, wireLine, lineOf, edgeLine, eventLine, clockLine, faultLine};
+ghost use Rattle.script.specs.Grammar.{lineRoom, isHex, hexOf, digitAt, byteAt, suiting, fitting, wireLine, lineOf, edgeLine, eventLine, clockLine, faultLine};
 use part::Step;
 use sequence::Edge;
 use sequence::Event;
+
+// A line of so many bytes, or more, can't be read: every form is shorter (`lineRoom`).
+pub const LINE_ROOM: usize = 16;
 
 // What a line, without its LF, asks for.
 pub enum Line {
@@ -41,7 +44,7 @@ fn digit_at(line: &[u8], i: usize) -> u8
 }
 
 fn byte_at(line: &[u8], i: usize) -> u8
-    requires { ⌜ i < 12 ⌝ }
+    requires { ⌜ i < lineRoom ⌝ }
     ensures { λ r. ⌜ r ≡ byteAt (now (line .entry)) i ⌝ }
 {
     let high = digit_at(line, i);

@@ -2,10 +2,13 @@
 ghost use mathlib.Core.Path.{_≡_};
 ghost use Prim.Native.Nat.{_+_, _<_, _≤_};
 ghost use lib.ListN.{length, take};
-ghost use Rattle.script.specs.Answer.{Put, decimalOf, levelOf, middleOf, busyOf, onlyIf, entryOf, actionOf, orOf, actionsOf, answerLine, header, roomy, textIf, noAnswer};
+ghost use Rattle.script.specs.Answer.{Put, decimalOf, levelOf, middleOf, busyOf, onlyIf, entryOf, actionOf, orOf, actionsOf, answerLine, header, answerRoom, roomy, textIf, noAnswer};
 use part::Act;
 use part::PartAnswer;
 use sequence::Action;
+
+// The bytes that have to be left where a line is put (`answerRoom`).
+pub const ANSWER_ROOM: usize = 80;
 
 // ---- pieces of text, each put at a place of the output; the place after it comes back
 
@@ -175,18 +178,18 @@ fn put_actions(out: &mut [u8], at: usize, acts: [Act; 3]) -> usize
 fn has_room(len: usize, at: usize) -> bool
     ensures { λ r. ⌜ r ≡ roomy len at ⌝ }
 {
-    if len < 80 {
+    if len < ANSWER_ROOM {
         return false;
     }
-    if len - 80 < at {
+    if len - ANSWER_ROOM < at {
         return false;
     }
     true
 }
 
 fn put_line(step: u64, reply: PartAnswer, int: bool, out: &mut [u8], at: usize) -> usize
-    requires { ⌜ at + 80 ≤ length (now out) ⌝ }
-    ensures { λ r. ⌜ Put (now (out .entry)) at (answerLine step reply int) r (now (out .exit)) ⌝ }
+    requires { ⌜ at + answerRoom ≤ length (now out) ⌝ }
+    ensures { λ r. ⌜ Put (now (out .entry)) at (answerLine step reply int) r (now (out .exit)) × (r ≤ at + answerRoom) ⌝ }
 {
     let acts = reply.actions;
     let p = put_decimal(out, at, step);
@@ -197,7 +200,7 @@ fn put_line(step: u64, reply: PartAnswer, int: bool, out: &mut [u8], at: usize) 
     put(out, u, b"\n")
 }
 
-// Puts the header line into the output at a place, and gives the place after it. With fewer than 80 bytes left it puts nothing.
+// Puts the header line into the output at a place, and gives the place after it. With fewer than ANSWER_ROOM bytes left it puts nothing.
 pub fn write_header(out: &mut [u8], at: usize) -> usize
     ensures { λ r. ⌜ Put (now (out .entry)) at (textIf (roomy (length (now (out .entry))) at) header) r (now (out .exit)) ⌝ }
 {
@@ -209,7 +212,7 @@ pub fn write_header(out: &mut [u8], at: usize) -> usize
 
 // Puts the line of an answer, that of step number `step` after which INT is `int`, in the same way.
 pub fn write_answer(step: u64, reply: PartAnswer, int: bool, out: &mut [u8], at: usize) -> usize
-    ensures { λ r. ⌜ Put (now (out .entry)) at (textIf (roomy (length (now (out .entry))) at) (answerLine step reply int)) r (now (out .exit)) ⌝ }
+    ensures { λ r. ⌜ Put (now (out .entry)) at (textIf (roomy (length (now (out .entry))) at) (answerLine step reply int)) r (now (out .exit)) × (r ≤ at + answerRoom) ⌝ }
 {
     if has_room(out.len(), at) {
         return put_line(step, reply, int, out, at);

@@ -1,6 +1,7 @@
 // The changes of a walk and of the flags of CHSTATUS that the rules make.
 ghost use mathlib.Core.Path.{_≡_};
-ghost use Rattle.sequence.specs.Walk.{idle, waiting, toPhase, stoRecorded, seqRecorded, feRecorded, errorNoted, noFlags, sdSet, feSet, weSet, reSet, nackFlags, faultFlags, lateFlags, lateWalk, endFlags, endWalk};
+ghost use Rattle.sequence.specs.Walk.{idle, waiting, toPhase, stoRecorded, seqRecorded, feRecorded, errorNoted};
+ghost use Rattle.sequence.specs.Walk.{noFlags, sdSet, feSet, weSet, reSet, nackFlags, faultFlags, lateFlags, lateWalk, endFlags, endWalk};
 use crate::wires::Ending;
 use crate::wires::Fault;
 use crate::wires::fld_after;

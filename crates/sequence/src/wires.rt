@@ -2,7 +2,10 @@
 ghost use mathlib.Core.Path.{_≡_};
 ghost use Prim.Native.Nat.{_+_, _<_, _≤_};
 ghost use lib.ListN.{getD};
-ghost use Rattle.sequence.specs.Wires.{ackTurn, nackTurn, byteTurn, tickingOf, beatOf, beatTurn, tickTurn, stopTurn, sdaTurn, sclTurn, turnOf, matchesOf, edgeBeat, haltedOf, reachOf, moveOf, Exists, nextOf, Ready, stopBy, againBy, maskedOf, beginningOf, restOf, endingOf, fldAfter, stopAsked, leaveAsked, startAsked, askedIn, askOf};
+ghost use Rattle.sequence.specs.Wires.{ackTurn, nackTurn, byteTurn, tickingOf, beatOf, beatTurn, tickTurn, stopTurn, sdaTurn, sclTurn, turnOf, matchesOf, edgeBeat};
+ghost use Rattle.sequence.specs.Wires.{haltedOf, reachOf, moveOf, Exists, nextOf, Ready, stopBy, againBy, maskedOf};
+ghost use Rattle.sequence.specs.Wires.{beginningOf, restOf, endingOf, fldAfter};
+ghost use Rattle.sequence.specs.Wires.{stopAsked, leaveAsked, startAsked, askedIn, askOf};
 use rules::Command;
 use rules::Phase;
 use rules::bit;

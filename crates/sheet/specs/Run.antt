@@ -14,7 +14,8 @@ use Rattle.channel.specs.Access.{readRefusal, readBy, readOf, asked, controlled
 use Rattle.channel.specs.Range.{inRange}
 use Rattle.channel.specs.State.{guarded}
 use Rattle.channel.specs.Step.{writeAt, storeAt, readAt, eventAt, eventStore, servedBy, servedStore}
-use Rattle.channel.specs.Wires.{frameEnded, passed, stopped, sentTo, movedTo, onward, finished, startedBy, started, cleared, beganBy, begun, countedOne, sendOn, clocked, ackAddress, receiveOn, received, failed, failedBy, nacked, turned, turnStore}
+use Rattle.channel.specs.Wires.{frameEnded, passed, stopped, sentTo, movedTo, onward, finished, startedBy, started, cleared, beganBy, begun}
+use Rattle.channel.specs.Wires.{countedOne, sendOn, clocked, ackAddress, receiveOn, received, failed, failedBy, nacked, turned, turnStore}
 use Rattle.part.specs.declared.map.Step.{Step}
 use Rattle.part.specs.declared.map.Step.the-variants.{Write, Read}
 use Rattle.part.specs.declared.state.Part.{Part}

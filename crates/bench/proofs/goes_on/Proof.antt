@@ -1,5 +1,5 @@
 -- `bench::goes_on` meets its contract.
-use Rattle.laws.specs.Cases.{cases}
+use borrow.Author.Needs.{needs}
 use Rattle.bench.proofs.goes_on.Statement.{statement}
 use Rattle.bench.proofs.goes_on.Tie as tie
 
@@ -7,5 +7,11 @@ pub goes-on-spec : {M : Type 1} → statement M
 goes-on-spec =
     tie.close
     (tie.spec
-    (λ c. search cases depth 12)
-    (λ c. search cases depth 12))
+    (λ c. search needs)
+    (λ c. search needs)
+    (λ c. search needs)
+    (λ c. search needs)
+    (λ c. rw (c .enum-told .given .1) (search needs))
+    (λ c. rw (c .enum-told2 .given .1))
+    (λ c. rw (c .enum-told3 .given .1))
+    (λ c. rw (c .enum-told4 .given .1)))

@@ -1,147 +1,142 @@
--- What the program makes of a block, round by round.
-use Prim.Native.Nat.{ℕ, zero, suc, _+_, _-_, _<_, _≤_}
-use mathlib.Core.Bool.{Bool, true, false}
-use mathlib.Core.List.{List}
-use mathlib.Core.Path.{_≡_, refl, sym, _∙_, ap}
+-- A block of bytes, behind the line that had begun.
+use Prim.Native.Nat.{ℕ, _+_, _-_, _<_, _≤_}
+use mathlib.Core.List.{List, [], _∷_, _++_}
+use mathlib.Core.Path.{_≡_, refl, sym, _∙_, ap, subst}
 use native.Mathlib.Omega.{arith}
-use borrow.Author.Tests.{ltb-true, ltb-false, leb-false}
+use borrow.Author.Tests.{le-leb}
 use lib.Dec.{ltb}
-use lib.ListN.{length}
+use lib.ListN.{length, take, drop, length-replicate}
+use lib.Seq.{sets}
+use Rattle.laws.specs.Cases.{pick-holds}
 use Rattle.laws.specs.Pick.{if_then_else_}
-use Rattle.laws.specs.Cases.{pick-holds, false-not-true}
 use Rattle.part.specs.declared.state.Part.{Part}
+use Rattle.part.specs.State.{freshPart, wiped}
 use Rattle.part.specs.Step.{Whole}
+use Rattle.part.specs.Laws.Kept.{fresh-part-in-range}
+use Rattle.script.specs.Answer.{Put, textIf, answerRoom, roomy, header}
+use Rattle.script.specs.Grammar.{lineRoom}
+use Rattle.runner.specs.declared.answering.Course.{Course}
+use Rattle.runner.specs.declared.lines.Start.{Start}
+use Rattle.runner.specs.Lines.{firstLf, noLine, lengthened, keptOf, keptBytes}
+use Rattle.runner.specs.Text.{Desk, Sitting, endedLines, restOf, fed, said, opening}
+use Rattle.runner.specs.Feeding.{deskOf, linesFrom, shortened, Answered}
+use Rattle.runner.specs.Laws.Kept.{after-whole, rest-unended, take-unended, again-fed, again-said, end-said, none-said, put-text}
+use Rattle.runner.specs.Laws.Lines.{kept-few, kept-first, put-before, put-stays}
+use Rattle.runner.specs.Laws.Feeding.{put-length}
+use Rattle.bench.specs.declared.Seat.{Seat}
 use Rattle.bench.specs.declared.Bench.{Bench}
-use Rattle.bench.specs.declared.answering.Course.{Course}
-use Rattle.bench.specs.Lines.{lineEnd}
-use Rattle.bench.specs.Answering.{Run, lineAt, oneLine, hasRoom, goesOn, answered, Answers}
-use Rattle.bench.specs.Blocks.{goingOn, Led, Turned}
-use Rattle.bench.specs.Blocks.Led.{none, more}
-use Rattle.bench.specs.Blocks.Turned.{ended, read}
-use Rattle.bench.specs.Laws.Lines.{end-after, end-in}
-use Rattle.bench.specs.Laws.Performing.{performed-whole}
-use Rattle.bench.specs.Laws.Answering.{goes-in}
+use Rattle.bench.specs.declared.How.the-variants.{On}
+use Rattle.bench.specs.Talk.{sittingOf, bareOf, silenced, Sized, Ready, Heard, Closed, Written, Turned}
+use Rattle.bench.specs.Talk.Turned.{read}
 
--- what holds where the program stands, before a round and after it
-pub record Stands (block : List ℕ) (k : ℕ) (p : Part) (m : List ℕ) (s : Run) : Type 0 where
-  pub led : Led block k p m (s .course .from) (s .course .step) (s .course .part) (s .memory)
-  pub whole : Whole (s .course .part) (s .memory)
-  pub inside : s .course .from ≤ length block
+module _ (s : Seat) (m o block : List ℕ) (r : Course) (n o′ : List ℕ) (line : Start) (ready : Ready s m)
+    (w : Answered block (record { part = s .part; step = s .step; from = 0; at = 0 }) m o r n o′)
+    (kept : line ≡ lengthened noLine (drop (r .from) block)) where
+  rest : keptBytes line ≡ take lineRoom (restOf [] block)
+  rest = ap keptBytes kept ∙ kept-first (drop (r .from) block) ∙ ap (take lineRoom) (w .rest)
 
-module _ (block : List ℕ) (k : ℕ) (p : Part) (m : List ℕ) where
-  stands-one : (s : Run) → Stands block k p m s → goesOn block s ≡ true → Stands block k p m (oneLine block s)
-  unfolding oneLine
-  stands-one s w g =
-      let h = goes-in block s g in
+  -- what `answer_lines` promises, with what is kept of the last line
+  pub block-heard : Heard (bareOf s m) block (record { part = r .part; step = r .step; line = line; at = r .at }) n o′
+  unfolding fed said
+  block-heard =
+      let d = deskOf (s .part) m (s .step) in
       record {
-        led = more (s .course .from) (s .course .step) (s .course .part) (s .memory) (w .led) h;
-        whole = performed-whole (s .course .part) (s .memory) (lineAt block (s .course .from)) (w .whole);
-        inside = omega (arith, h);
+        stands = rw (w .desk, rest);
+        text = put-text o _ (r .at) o′ (w .text) (w .fits);
+        fits = w .fits;
+        ready = record {
+          whole = subst (λ (x : Desk). Whole (x .state .part) (x .state .memory)) (sym (w .desk)) (after-whole d (linesFrom block 0) (ready .whole));
+          unended = rw rest (take-unended lineRoom (restOf [] block) (rest-unended [] block (omega arith)));
+        };
       }
 
-  pub stands-on : (n : ℕ) (s : Run) → Stands block k p m s → Stands block k p m (answered block n s)
-  unfolding answered
-  stands-on zero s w = w
-  stands-on (suc n) s w = pick-holds (Stands block k p m) (goesOn block s) (λ g. stands-on n (oneLine block s) (stands-one s w g)) (λ _. w)
+-- bytes behind what was kept
+pub heard-behind : (s : Seat) (m l : List ℕ) (r : Seat) (n o : List ℕ) → Ready s m → Heard (bareOf s m) (keptBytes (s .line) ++ l) r n o → Heard (sittingOf s m) l r n o
+heard-behind s m l r n o ready w =
+    let d = deskOf (s .part) m (s .step) in
+    record {
+      stands = w .stands ∙ ap shortened (again-fed d (keptBytes (s .line)) l (ready .unended));
+      text = w .text ∙ again-said d (keptBytes (s .line)) l (ready .unended);
+      fits = w .fits;
+      ready = w .ready;
+    }
 
--- a round goes on from its place, and a line takes it further
-AtLeast : ℕ → Run → Type 0
-AtLeast k s = k ≤ s .course .from
+-- where they stand in the block: from place `lineRoom` on, with what was kept right before
+pub from-heard : (s : Seat) (m block : List ℕ) (n at k : ℕ) (joined : List ℕ) (r : Seat) (m′ o′ : List ℕ) → Ready s m → at ≡ lineRoom - k
+    → joined ≡ sets block at (take k (s .line .bytes)) → length (take k (s .line .bytes)) ≡ k → k ≡ keptOf (s .line .len) → k ≤ lineRoom → lineRoom + n ≤ length block
+    → Heard (bareOf s m) (take (lineRoom + n - at) (drop at joined)) r m′ o′
+    → Heard (sittingOf s m) (take n (drop lineRoom block)) r m′ o′ × (drop lineRoom joined ≡ drop lineRoom block) × Sized (s .line)
+from-heard s m block n at k joined r m′ o′ ready a b c d h i w =
+    let l = take k (s .line .bytes) in
+    let size : lineRoom + n - lineRoom ≡ n = omega arith in
+    let e : take (lineRoom + n - at) (drop at joined) ≡ keptBytes (s .line) ++ take n (drop lineRoom block) =
+    rw (b, a) (put-before l block k (lineRoom + n) c h (omega arith) i)
+    ∙ ap (λ (x : ℕ). l ++ take x (drop lineRoom block)) size
+    ∙ ap (λ (x : ℕ). take x (s .line .bytes) ++ take n (drop lineRoom block)) d in (
+      heard-behind s m (take n (drop lineRoom block)) r m′ o′ ready (subst (λ (x : List ℕ). Heard (bareOf s m) x r m′ o′) e w),
+      rw (b, a) (put-stays l block k c h (omega (arith, i))),
+      subst (λ (x : ℕ). length (take x (s .line .bytes)) ≡ x) d c,
+    )
 
-module _ (block : List ℕ) where
-  further : (s : Run) → s .course .from < oneLine block s .course .from
-  unfolding oneLine
-  further s = let a = end-after block (s .course .from) in omega (arith, a)
+-- ---- the end of the input
+kept-some : (line : Start) → Sized line → 0 < line .len → 0 < length (keptBytes line)
+unfolding lineRoom keptOf
+kept-some line e h =
+    let k : 0 < keptOf (line .len) = pick-holds (λ (x : ℕ). 0 < x) (ltb (line .len) lineRoom) (λ _. h) (λ _. omega arith) in
+    omega (arith, e, k)
 
-  from-on : (n k : ℕ) (s : Run) → k ≤ s .course .from → AtLeast k (answered block n s)
-  unfolding answered AtLeast
-  from-on zero k s h = h
-  from-on (suc n) k s h = pick-holds (AtLeast k) (goesOn block s) (λ _. from-on n k (oneLine block s) (let f = further s in omega (arith, f, h))) (λ _. h)
+kept-none : (line : Start) → line .len ≤ 0 → length (keptBytes line) ≡ 0
+kept-none line h = let e : line .len ≡ 0 = omega (arith, h) in rw (e, kept-few 0 (omega arith))
 
-  pub answered-from : (n : ℕ) (s : Run) → s .course .from ≤ answered block n s .course .from
-  unfolding AtLeast
-  answered-from n s = from-on n (s .course .from) s (omega arith)
+pub last-heard : (s : Seat) (m l : List ℕ) (r : Seat) (n o : List ℕ) → l ≡ 10 ∷ [] → Sized (s .line) → 0 < s .line .len
+    → Heard (sittingOf s m) l r n o → Closed (sittingOf s m) r n o
+last-heard s m l r n o e f h w =
+    let d = deskOf (s .part) m (s .step) in
+    record {
+      text = w .text ∙ ap (said (sittingOf s m)) e ∙ end-said d (keptBytes (s .line)) (kept-some (s .line) f h);
+      fits = w .fits;
+      ready = w .ready;
+    }
 
-  -- none was answered: none is left, with all the output free
-  Still : Run → Run → Type 0
-  Still s t = t .course .from ≤ s .course .from → goesOn block s ≡ false
+pub silenced-ready : (s : Seat) (m : List ℕ) → Ready s m → Ready (silenced s) m
+silenced-ready s m w = record { whole = w .whole; unended = w .unended }
 
-  pub answered-none : (n : ℕ) (s : Run) → 0 < n → answered block n s .course .from ≤ s .course .from → goesOn block s ≡ false
-  unfolding answered AtLeast Still
-  answered-none zero s h e = absurd (omega (arith, h))
-  answered-none (suc n) s h e =
-      pick-holds (Still s) (goesOn block s)
-      (λ _ i. absurd (let f = further s in let g = answered-from n (oneLine block s) in omega (arith, f, g, i)))
-      (λ g _. g) e
+pub silent-closed : (s : Seat) (m : List ℕ) (r : Seat) (o : List ℕ) → r ≡ silenced s → s .line .len ≤ 0 → Ready s m → Closed (sittingOf s m) r m o
+silent-closed s m r o e h w =
+    let d = deskOf (s .part) m (s .step) in
+    rw e (record {
+      text = sym (none-said d (keptBytes (s .line)) (kept-none (s .line) h));
+      fits = omega arith;
+      ready = silenced-ready s m w;
+    })
 
-  pub none-left : (s : Run) → s .course .at ≡ 0 → s .course .from ≤ length block → goesOn block s ≡ false → lineEnd block (s .course .from) ≡ length block
-  unfolding hasRoom
-  none-left s z i g =
-      let a = end-in block (s .course .from) i in
-      let b = pick-holds (λ (x : Bool). x ≡ false → length block ≤ lineEnd block (s .course .from)) (ltb (lineEnd block (s .course .from)) (length block))
-      (λ _ f. absurd (let k = leb-false (s .course .at) 65456 f in omega (arith, k, z))) (λ f _. ltb-false (lineEnd block (s .course .from)) (length block) f) g in
-      omega (arith, a, b)
+-- ---- the header
+pub header-put : (o : List ℕ) (at : ℕ) (o′ : List ℕ) → answerRoom ≤ length o → Put o 0 (textIf (roomy (length o) 0) header) at o′ → (at ≤ length o′) × (take at o′ ≡ header)
+unfolding textIf if_then_else_
+header-put o at o′ h w =
+    let e = le-leb answerRoom (length o) h in
+    let new : Put o 0 header at o′ = rw e at w in
+    let n : length header ≡ 28 = refl in
+    let z = put-length o 0 header at o′ new in
+    let i : at ≤ length o′ = omega (arith, new .place, n, z, h) in
+    (i, put-text o header at o′ new i)
 
--- ---- the rounds: where the program stands, and that the last one left no line
-pub record Rounds (block : List ℕ) (k : ℕ) (p : Part) (m : List ℕ) (step : ℕ) (q : Part) (n : List ℕ) (from : ℕ) (running going : Bool) : Type 0 where
-  pub led : Led block k p m from step q n
-  pub whole : Whole q n
-  pub inside : from ≤ length block
-  pub all : going ≡ false → running ≡ true → lineEnd block from ≡ length block
+pub opens : (p : Part) (line : Start) (at : ℕ) → p ≡ freshPart → line ≡ noLine → sittingOf (record { part = p; step = 0; line = line; at = at }) wiped ≡ opening
+opens p line at e f = rw (e, f, kept-few 0 (omega arith))
 
-pub rounds-none : (block : List ℕ) (k : ℕ) (p : Part) (m : List ℕ) (running : Bool) → Whole p m → Rounds block k p m k p m 0 running true
-rounds-none block k p m running w =
-    record { led = none; whole = w; inside = omega arith; all = λ e _. absurd (omega (arith, false-not-true (sym e))) }
+pub opening-ready : (s : Seat) (m : List ℕ) → sittingOf s m ≡ opening → Ready s m
+unfolding wiped
+opening-ready s m e =
+    record {
+      whole = record {
+        ranged = rw (ap (λ (x : Sitting). x .desk .state .part) e) fresh-part-in-range;
+        whole = ap (λ (x : Sitting). length (x .desk .state .memory)) e ∙ length-replicate {A = ℕ} 13056 0;
+      };
+      unended = rw (ap (λ (x : Sitting). x .line) e) (omega arith);
+    }
 
-module _ (block : List ℕ) (k : ℕ) (p : Part) (m : List ℕ) (s r : Course) (n o n′ o′ : List ℕ) (running going : Bool)
-    (w : Stands block k p m (record { course = s; memory = n; out = o })) (z : s .at ≡ 0) (done : Answers block s n o r n′ o′)
-    (go : going ≡ goingOn running (s .from) (r .from)) where
-  before : Run
-  before = record { course = s; memory = n; out = o }
-
-  after : Run
-  after = record { course = r; memory = n′; out = o′ }
-
-  stands-after : Stands block k p m after
-  unfolding before after
-  stands-after = rw done (stands-on block k p m (length block) before w)
-
-  pub further-on : s .from ≤ r .from
-  unfolding before after
-  further-on = rw (← ap (λ (x : Run). x .course .from) done) at (answered-from block (length block) before)
-
-  still : (size : ℕ) → length block ≡ size → r .from ≤ s .from → lineEnd block (s .from) ≡ length block
-  unfolding before after
-  still zero e h = let a = end-in block (s .from) (w .inside) in omega (arith, e, a)
-  still (suc n) e h =
-      let stay : answered block (length block) before .course .from ≤ s .from = rw (← done) h in
-      none-left block before z (w .inside) (answered-none block (length block) before (omega (arith, e)) stay)
-
-  pub rounds-on : Rounds block k p m (r .step) (r .part) n′ (r .from) running going
-  unfolding after if_then_else_
-  rounds-on =
-      record {
-        led = stands-after .led;
-        whole = stands-after .whole;
-        inside = stands-after .inside;
-        all = λ e f.
-            let g : ltb (s .from) (r .from) ≡ false = sym (rw f at go) ∙ e in
-            let h = ltb-false (s .from) (r .from) g in
-            let i : r .from ≡ s .from = omega (arith, h, further-on) in
-            rw i (still (length block) refl h);
-      }
-
--- each round but the last takes the program further
-pub turnsLeft : ℕ → ℕ → Bool → ℕ
-turnsLeft len from going = (len - from) + (if going then 1 else 0)
-
-pub fewer-left : (len from to : ℕ) (running going : Bool) → going ≡ goingOn running from to → from ≤ to → to ≤ len → turnsLeft len to going < turnsLeft len from true
-unfolding turnsLeft if_then_else_
-fewer-left len from to true true e h i = let k = ltb-true from to (sym e) in omega (arith, h, i, k)
-fewer-left len from to false true e h i = absurd (omega (arith, false-not-true (sym e)))
-fewer-left len from to running false e h i = omega (arith, h, i)
-
--- ---- after one read no. 9 refuses nothing
-pub turned-whole : (b : Bench) (m : List ℕ) (r : Bench) (n : List ℕ) → Turned b m r n → Whole (r .part) n
-turned-whole b m r n (ended w) = w .whole
-turned-whole b m r n (read came w) = w .whole
+-- ---- a turn
+pub heard-turned : (s : Seat) (m : List ℕ) (b : Bench) (n o l came : List ℕ) → came ≡ l → Written On (b .how) → Heard (sittingOf s m) l (b .seat) n o
+    → Turned s m b n came (take (b .seat .at) o)
+heard-turned s m b n o l came e g w =
+    read g (w .stands ∙ ap (λ (x : List ℕ). shortened (fed (sittingOf s m) x)) (sym e)) (w .text ∙ ap (said (sittingOf s m)) (sym e))

@@ -33,7 +33,8 @@ use Rattle.sequence.specs.declared.wires.Ending.{Ending}
 use Rattle.sequence.specs.declared.wires.Ending.the-variants.{Fe, Error, Sd, Wait}
 use Rattle.rules.specs.Tables.{fitting, readsOf, skippedOf, firstSent}
 use Rattle.rules.specs.Range.{pointersIn, registersIn, countingOf, endedIn, blankOf, recordedIn, walkIn, countedIn, frameAt, frameIn}
-use Rattle.sequence.specs.Wires.{beginningOf, reachOf, moveOf, nextOf, restOf, endingOf, ackTurn, nackTurn, byteTurn, beatOf, beatTurn, tickingOf, tickTurn, stopTurn, sdaTurn, sclTurn, turnOf, matchesOf, edgeBeat}
+use Rattle.sequence.specs.Wires.{beginningOf, reachOf, moveOf, nextOf, restOf, endingOf}
+use Rattle.sequence.specs.Wires.{ackTurn, nackTurn, byteTurn, beatOf, beatTurn, tickingOf, tickTurn, stopTurn, sdaTurn, sclTurn, turnOf, matchesOf, edgeBeat}
 use Rattle.sequence.specs.Walk.{idle, waiting, feRecorded, endWalk, lateFlags, lateWalk}
 use Rattle.rules.specs.Laws.Tables.{first-from}
 use Rattle.rules.specs.Laws.Range.{Stands, stands-of, of-stands, first-stands, stands-counted, registers-count}
@@ -41,7 +42,9 @@ use Rattle.channel.specs.declared.state.Channel.{Channel}
 use Rattle.channel.specs.declared.state.Stepped.{Stepped}
 use Rattle.channel.specs.State.{countOf, framecntOf, withFlags, withWalk, idled}
 use Rattle.channel.specs.Range.{inRange}
-use Rattle.channel.specs.Wires.{lengthOf, bytesOf, haltOf, resolved, endedBy, frameEnded, passed, stopped, sentTo, movedTo, onward, finished, startedBy, started, cleared, beganBy, begun, byteSent, sendOn, clocked, ackAddress, countedOne, ackSending, receiveOn, received, noted, failed, failedBy, nacked, lateBy, faulted, turned, femskOf, beaten, triggered}
+use Rattle.channel.specs.Wires.{lengthOf, bytesOf, haltOf, resolved, endedBy, frameEnded, passed, stopped, sentTo, movedTo, onward, finished, startedBy, started, cleared, beganBy, begun}
+use Rattle.channel.specs.Wires.{byteSent, sendOn, clocked, ackAddress, countedOne, ackSending, receiveOn, received, noted, failed, failedBy, nacked}
+use Rattle.channel.specs.Wires.{lateBy, faulted, turned, femskOf, beaten, triggered}
 use Rattle.channel.specs.Laws.Range.{range-pointers, range-registers, range-walk, range-frame}
 
 -- ---- the range as its four facts

@@ -1,59 +1,92 @@
--- The channels of the part keep apart: a channel's step is a step of the record and the window that its address or its event names.
+-- The channels of the part keep apart, whatever their steps are: a task of channel c is a work of it.
 use Prim.Native.Nat.{ℕ, _<_}
-use mathlib.Core.List.{List, [], _∷_}
-use mathlib.Core.Path.{_≡_, sym, _∙_, ap, subst}
-use Rattle.mixes.specs.Mix.{All}
-use Rattle.mixes.specs.Laws.Apart.{Apart, StepOf}
-use Rattle.channel.specs.declared.step.Op.{Op}
+use mathlib.Core.Bool.{Bool, true, false}
+use mathlib.Core.Path.{_≡_, refl, sym, _∙_, ap, subst}
+use native.Mathlib.Omega.{arith}
+use borrow.Author.Tests.{lt-ltb}
+use lib.Dec.{ltb}
+use Rattle.laws.specs.Pick.{if_then_else_}
+use Rattle.mixes.specs.Mix.{OfSome}
+use Rattle.mixes.specs.Laws.Apart.{Apart}
 use Rattle.part.specs.declared.map.Step.{Step}
-use Rattle.part.specs.declared.map.Target.the-variants.{One}
+use Rattle.part.specs.declared.map.Target.{Target}
+use Rattle.part.specs.declared.map.Target.the-variants.{One, All}
 use Rattle.part.specs.Map.{targetOf}
 use Rattle.part.specs.Step.{partServed, partStored}
-use Rattle.part.specs.Laws.Map.{one-in-part}
 use Rattle.part.specs.Laws.Range.{step-accepted, bytes-accepted}
+use Rattle.works.specs.Work.{Work, Reply, workAfter, workGives, replyBy, workDone, workReply}
+use Rattle.works.specs.Laws.Work.{work-kept, work-unmoved, work-commute}
+use Rattle.works.specs.Laws.Op.{opWork, op-after, op-reply}
 use Rattle.independent.specs.Statement.{State, Accepted, OfChannel, ownerOf, thePart}
-use Rattle.independent.specs.Laws.One.{afterOne, answerOne, one-kept, one-unmoved, one-commute}
+use Rattle.independent.specs.Tasks.{Task, TaskOf, afterTask, replyTo, theBench}
+use Rattle.independent.specs.Tasks.Task.{step, work}
 
--- a step of some channel
-pub record Single (a : Step) : Type 0 where
-  pub c : ℕ
-  pub op : Op
-  pub is : targetOf a ≡ One op c
+-- on accepted states the task t is a work of channel c
+record IsWork (t : Task) (c : ℕ) : Type 0 where
+  w : Work
+  does : (s : State) → Accepted s → afterTask s t ≡ workAfter s c w
+  says : (s : State) → Accepted s → replyTo s t ≡ replyBy c (workGives s c w)
 
-below : (a : Step) (x : Single a) → x .c < 3
-below a x = one-in-part a (x .c) (x .op) (x .is)
+-- an access or an event is, a step of the whole part is of no channel
+step-is-work : (a : Step) (t : Target) → targetOf a ≡ t → ownerOf t < 3 → IsWork (step a) (ownerOf t)
+unfolding partServed partStored
+step-is-work a (One op c) is h = record {
+  w = opWork c op;
+  does = λ s g. (rw (step-accepted (s .part) (s .memory) a g, bytes-accepted (s .part) (s .memory) a g, is)) ∙ op-after s c op;
+  says = λ s g. (rw (step-accepted (s .part) (s .memory) a g, is)) ∙ op-reply s c op;
+}
+step-is-work a (All t) is h = absurd (omega arith)
 
-differ : (a b : Step) (x : Single a) (y : Single b) → (thePart .owner a ≡ thePart .owner b → ⊥) → x .c ≡ y .c → ⊥
-differ a b x y ne e = ne (ap ownerOf (x .is) ∙ e ∙ sym (ap ownerOf (y .is)))
+-- the call of a work is that work, of a channel that there is
+call-is-work : (c : ℕ) (w : Work) (b : Bool) → ltb c 3 ≡ b → (if b then c else 3) < 3 → IsWork (work c w) (if b then c else 3)
+unfolding workDone workReply if_then_else_
+call-is-work c w true e h = record { w = w; does = λ s g. rw (g, e); says = λ s g. rw (g, e) }
+call-is-work c w false e h = absurd (omega arith)
 
-module _ (s : State) (g : Accepted s) (a : Step) (x : Single a) where
-  after-one : thePart .after s a ≡ afterOne s (x .c) (x .op)
-  unfolding partServed partStored afterOne
-  after-one = rw (step-accepted (s .part) (s .memory) a g, bytes-accepted (s .part) (s .memory) a g, x .is)
+is-work : (t : Task) → OfSome theBench t → IsWork t (theBench .owner t)
+is-work (step a) h = step-is-work a (targetOf a) refl h
+is-work (work c w) h = call-is-work c w (ltb c 3) refl h
 
-  answer-one : thePart .answer s a ≡ answerOne s (x .c) (x .op)
-  unfolding partServed answerOne
-  answer-one = rw (step-accepted (s .part) (s .memory) a g, x .is)
+kept : (s : State) (a : Task) (g : Accepted s) (h : OfSome theBench a) → Accepted (afterTask s a)
+kept s a g h = let x = is-work a h in subst Accepted (sym (x .does s g)) (work-kept s g (theBench .owner a) (x .w) h)
 
-  kept : Accepted (afterOne s (x .c) (x .op))
-  kept = one-kept s g (x .c) (x .op) (below a x)
-
-pub part-apart : Apart thePart Accepted Single
-part-apart = record {
-  kept = λ s a g x. subst Accepted (sym (after-one s g a x)) (kept s g a x);
-  unmoved = λ s a b g x y ne.
-      ap (λ (u : State). thePart .answer u a) (after-one s g b y)
-      ∙ answer-one (afterOne s (y .c) (y .op)) (kept s g b y) a x
-      ∙ one-unmoved s g (x .c) (y .c) (x .op) (y .op) (below b y) (λ e. differ a b x y ne (sym e))
-      ∙ sym (answer-one s g a x);
-  commute = λ s a b g x y ne.
-      ap (λ (u : State). thePart .after u b) (after-one s g a x)
-      ∙ after-one (afterOne s (x .c) (x .op)) (kept s g a x) b y
-      ∙ one-commute s g (x .c) (y .c) (x .op) (y .op) (below a x) (below b y) (differ a b x y ne)
-      ∙ sym (after-one (afterOne s (y .c) (y .op)) (kept s g b y) a x)
-      ∙ sym (ap (λ (u : State). thePart .after u a) (after-one s g b y));
+pub bench-apart : Apart theBench Accepted (OfSome theBench)
+bench-apart = record {
+  kept = kept;
+  unmoved = λ s a b g h i ne.
+      let x = is-work a h in
+      let y = is-work b i in
+      let c = theBench .owner a in
+      let d = theBench .owner b in
+      x .says (afterTask s b) (kept s b g i)
+      ∙ ap (λ (u : State). replyBy c (workGives u c (x .w))) (y .does s g)
+      ∙ ap (replyBy c) (work-unmoved s g c d (x .w) (y .w) i (λ e. ne (sym e)))
+      ∙ sym (x .says s g);
+  commute = λ s a b g h i ne.
+      let x = is-work a h in
+      let y = is-work b i in
+      let c = theBench .owner a in
+      let d = theBench .owner b in
+      y .does (afterTask s a) (kept s a g h)
+      ∙ ap (λ (u : State). workAfter u d (y .w)) (x .does s g)
+      ∙ work-commute s g c d (x .w) (y .w) h i ne
+      ∙ sym (ap (λ (u : State). workAfter u c (x .w)) (y .does s g))
+      ∙ sym (x .does (afterTask s b) (kept s b g i));
 }
 
-pub all-single : (c : ℕ) (l : List Step) → All (OfChannel c) l → All (StepOf thePart Single c) l
-all-single c [] h = tt
-all-single c (a ∷ l) h = ((record { c = c; op = h .0 .op; is = h .0 .is }, ap ownerOf (h .0 .is)), all-single c l (h .1))
+-- and so the part's steps, which are tasks
+pub part-apart : Apart thePart Accepted (OfSome thePart)
+part-apart = record {
+  kept = λ s a g h. bench-apart .kept s (step a) g h;
+  unmoved = λ s a b g h i ne. ap (λ (r : Reply). r .answer) (bench-apart .unmoved s (step a) (step b) g h i ne);
+  commute = λ s a b g h i ne. bench-apart .commute s (step a) (step b) g h i ne;
+}
+
+-- ---- a step of channel c is one of those that the machine counts as channel c's
+pub step-of : (c : ℕ) (a : Step) → c < 3 → OfChannel c a → thePart .owner a ≡ c
+step-of c a h x = ap ownerOf (x .is)
+
+pub task-of : (c : ℕ) (t : Task) → c < 3 → TaskOf c t → theBench .owner t ≡ c
+unfolding if_then_else_
+task-of c (step a) h x = step-of c a h x
+task-of c (work d w) h x = rw (x, lt-ltb _ _ h)

@@ -18,7 +18,8 @@ use ghost.Atoms.{Atoms, sem}
 use contract.Monad.{Fun, fact}
 use contract.Running.{givenOf, tables, tablesOf}
 use types.Kit.{Given, ‵, raw, _⊛_, ⋆, some, later, _$_, _∵_, !, qed, by, move, keep, drop, use1, use3, split, join, pick, fsplit, fsplit3, fjoin, fjoin3, feqL, feqI, suffices, frame, await, done}
-use types.Run.{look, look-raw, store, store-raw, init, forget, stop, hop, fld, from, load, addr, of-opd, and-then, no-more, assigns, land, returns, enter, alloc1, alloc0, params1, pass1, pass0, free1, free0}
+use types.Run.{look, look-raw, store, store-raw, init, forget, stop, hop, fld, from, load, addr, of-opd, and-then, no-more}
+use types.Run.{assigns, land, returns, enter, alloc1, alloc0, params1, pass1, pass0, free1, free0}
 use types.Part.{agg, whole, sub, look-in}
 use types.SemTy.{Body}
 use sound.WpLaws.{FmC, fmOf, WpFn-mono}
@@ -103,7 +104,9 @@ module _ {M : Type 1} (𝓤 : URA M) (H : Heap 𝓤) (A : Atoms 𝓤) (at-mem : 
   answer-said : (s : Stepped) (r : Answer) → ent 𝓤 (ensured 𝓤 H A answer-of.ended (answer-of.clauses 𝓤 H A at-mem run) tt (s, tt) tt r) (fact 𝓤 (r ≡ s .answer))
   answer-said s r = exE 𝓤 _ (λ ws. snd∗ 𝓤 (sem 𝓤 H A (lasts answer-of.ended tt (s, tt) ws)) (fact 𝓤 (r ≡ s .answer)))
 
-module _ {M : Type 1} (𝓤 : URA M) (H : Heap 𝓤) (A : Atoms 𝓤) (W : Given 𝓤 H A) (at-mem : Memory → SProp 𝓤) (run : Routine → Fun 𝓤) (κ κ′ : Lft) (q q′ : Share) (b o : ℕ) (γ : GName) (h : Channel) (n : ℕ) (fits : n < 2 ^ 8) (b′ o′ : ℕ) (γ′ : GName) (ys : List ℕ) (op : Op) (op-is : Is O.the-row op (mach-op op ∷ [])) where
+module _ {M : Type 1} (𝓤 : URA M) (H : Heap 𝓤) (A : Atoms 𝓤) (W : Given 𝓤 H A) (at-mem : Memory → SProp 𝓤) (run : Routine → Fun 𝓤)
+    (κ κ′ : Lft) (q q′ : Share) (b o : ℕ) (γ : GName) (h : Channel) (n : ℕ) (fits : n < 2 ^ 8)
+    (b′ o′ : ℕ) (γ′ : GName) (ys : List ℕ) (op : Op) (op-is : Is O.the-row op (mach-op op ∷ [])) where
   abbrev y : RefT (List ℕ)
   y = record { ptr = (b′, o′); name = γ′; now = ys }
 
@@ -124,10 +127,15 @@ module _ {M : Type 1} (𝓤 : URA M) (H : Heap 𝓤) (A : Atoms 𝓤) (W : Given
   abbrev to-step : Step 𝓤 H A at-mem run .Ghost
   to-step = (((κ′, tt), (q′, tt), tt, (h, (n, (y, (op, tt)))), (mach h ∷ [], (vint w8 n ∷ [], (v ∷ [], (mach-op op ∷ [], tt))))), tt)
 
-  goes-step : ent 𝓤 (sep 𝓤 (sep 𝓤 (A .lft κ′ q′) (sem 𝓤 H A ftrue)) (sep 𝓤 (sem 𝓤 H A (T.the-row .own h (mach h ∷ []))) (sem 𝓤 H A (MutSlice (named 1) κ′ u8 .own y (v ∷ []))))) (Step 𝓤 H A at-mem run .pre to-step)
+  goes-step : ent 𝓤
+      (sep 𝓤 (sep 𝓤 (A .lft κ′ q′) (sem 𝓤 H A ftrue))
+      (sep 𝓤 (sem 𝓤 H A (T.the-row .own h (mach h ∷ []))) (sem 𝓤 H A (MutSlice (named 1) κ′ u8 .own y (v ∷ [])))))
+      (Step 𝓤 H A at-mem run .pre to-step)
   goes-step =
       qed W ((‵ (flft κ′ q′) ⊛ ‵ ftrue) ∷ ‵ (T.the-row .own h (mach h ∷ [])) ∷ ‵ (MutSlice (named 1) κ′ u8 .own y (v ∷ [])) ∷ []) ∵
-      nothing ! $ owned ! O.the-row (Is O.the-row) (EL.makes O.the-type O′.the-plain 𝓤 H A) op _ op-is $ fjoin ! $ move ! (3 ∷ 0 ∷ []) $ fjoin ! $ owned ! u8 (Is u8) (uint-makes 𝓤 H A W w8) n _ (refl, fits) $ fjoin ! $ move ! (2 ∷ 0 ∷ []) $ fjoin ! $ move ! (1 ∷ 0 ∷ []) $ join ! $ frame ! $ done !
+      nothing ! $ owned ! O.the-row (Is O.the-row) (EL.makes O.the-type O′.the-plain 𝓤 H A) op _ op-is $ fjoin ! $ move ! (3 ∷ 0 ∷ []) $
+      fjoin ! $ owned ! u8 (Is u8) (uint-makes 𝓤 H A W w8) n _ (refl, fits) $ fjoin ! $ move ! (2 ∷ 0 ∷ []) $
+      fjoin ! $ move ! (1 ∷ 0 ∷ []) $ join ! $ frame ! $ done !
 
   abbrev to-channel : Stepped → Val → ChannelOf 𝓤 H A at-mem run .Ghost
   to-channel s w = ((tt, tt, tt, (s, tt), (w ∷ [], tt)), tt)
@@ -143,18 +151,33 @@ module _ {M : Type 1} (𝓤 : URA M) (H : Heap 𝓤) (A : Atoms 𝓤) (W : Given
 
   -- the exit: the promise's three facts, and what is still owned
   exits : (d : Channel) (zs : List ℕ) (r : Answer) (w : Val) → (r ≡ stepOf h ys n op .answer) × (d ≡ stepOf h ys n op .channel) × (zs ≡ bytesAfter h ys n op) → length zs ≡ length ys
-      → ent 𝓤 (⋆ 𝓤 H A (‵ (fobs γ (T.the-row .coded .code d)) ∷ ‵ (fbor κ (Body (mem T.the-row) b o γ)) ∷ ‵ (flft κ q) ∷ (‵ (flft κ′ q′) ⊛ ‵ ftrue) ∷ ‵ (finally u8 γ′ zs) ∷ ‵ (R.the-row .own r (w ∷ [])) ∷ [])) (Post w)
+      → ent 𝓤
+      (⋆ 𝓤 H A
+      (‵ (fobs γ (T.the-row .coded .code d)) ∷ ‵ (fbor κ (Body (mem T.the-row) b o γ)) ∷ ‵ (flft κ q) ∷ (‵ (flft κ′ q′) ⊛ ‵ ftrue) ∷ ‵ (finally u8 γ′ zs) ∷ ‵ (R.the-row .own r (w ∷ [])) ∷ []))
+      (Post w)
   exits d zs r w e l =
       qed W (‵ (fobs γ (T.the-row .coded .code d)) ∷ ‵ (fbor κ (Body (mem T.the-row) b o γ)) ∷ ‵ (flft κ q) ∷ (‵ (flft κ′ q′) ⊛ ‵ ftrue) ∷ ‵ (finally u8 γ′ zs) ∷ ‵ (R.the-row .own r (w ∷ [])) ∷ []) ∵
-      suffices ! _ (ends-at 𝓤 H A step-lent.ended stayed (step-lent.clauses 𝓤 H A at-mem run) W (((κ, (κ′, tt)), (q, (q′, tt)), tt, x, at), tt) w r (d, (tt, (zs, (tt, tt)))) (tt, (tt, (l, (tt, tt))))) $ says ! e $ move ! (2 ∷ 3 ∷ []) $ join ! $
-      frame ! $ feqI ! (List Val) (vptr b o ∷ []) (vptr b o ∷ []) refl $ fjoin3 ! $ nothing ! $ owned ! O.the-row (Is O.the-row) (EL.makes O.the-type O′.the-plain 𝓤 H A) op _ op-is $ fjoin ! $ move ! (2 ∷ 0 ∷ []) $ fjoin ! $ owned ! u8 (Is u8) (uint-makes 𝓤 H A W w8) n _ (refl, fits) $ fjoin ! $ move ! (1 ∷ 0 ∷ []) $ fjoin ! $ done !
+      suffices ! _
+      (ends-at 𝓤 H A step-lent.ended stayed (step-lent.clauses 𝓤 H A at-mem run) W
+      (((κ, (κ′, tt)), (q, (q′, tt)), tt, x, at), tt) w r (d, (tt, (zs, (tt, tt)))) (tt, (tt, (l, (tt, tt))))) $
+      says ! e $ move ! (2 ∷ 3 ∷ []) $ join ! $
+      frame ! $ feqI ! (List Val) (vptr b o ∷ []) (vptr b o ∷ []) refl $ fjoin3 ! $ nothing ! $
+      owned ! O.the-row (Is O.the-row) (EL.makes O.the-type O′.the-plain 𝓤 H A) op _ op-is $ fjoin ! $ move ! (2 ∷ 0 ∷ []) $
+      fjoin ! $ owned ! u8 (Is u8) (uint-makes 𝓤 H A W w8) n _ (refl, fits) $ fjoin ! $ move ! (1 ∷ 0 ∷ []) $ fjoin ! $ done !
 
-  module _ (C : Calls 𝓤 H) (Λ : Loops 𝓤 H) (fm : FmC 𝓤 H (W .laws) C) (known : Triple 𝓤 (C #step) (Step 𝓤 H A at-mem run)) (known-channel : Triple 𝓤 (C #channel-of) (ChannelOf 𝓤 H A at-mem run)) (known-answer : Triple 𝓤 (C #answer-of) (AnswerOf 𝓤 H A at-mem run)) where
+  module _ (C : Calls 𝓤 H) (Λ : Loops 𝓤 H) (fm : FmC 𝓤 H (W .laws) C)
+      (known : Triple 𝓤 (C #step) (Step 𝓤 H A at-mem run))
+      (known-channel : Triple 𝓤 (C #channel-of) (ChannelOf 𝓤 H A at-mem run))
+      (known-answer : Triple 𝓤 (C #answer-of) (AnswerOf 𝓤 H A at-mem run)) where
     walk : Room u8 (length ys) → ent 𝓤 (onEntry 𝓤 H A step-lent.signature (κ, (κ′, tt)) (q, (q′, tt)) x at) (WpFn 𝓤 H C Λ code.function (vptr b o ∷ vint w8 n ∷ v ∷ mach-op op ∷ []) Post)
     walk room =
-        qed W ((‵ (flft κ q) ⊛ ‵ (flft κ′ q′) ⊛ ‵ ftrue) ∷ ‵ (owns (MutRef (named 0) κ T.the-row ∷ u8 ∷ MutSlice (named 1) κ′ u8 ∷ O.the-row ∷ []) x at) ∷ []) ∵ enter ! C Λ code.function (vptr b o ∷ vint w8 n ∷ v ∷ mach-op op ∷ []) _ $
+        qed W ((‵ (flft κ q) ⊛ ‵ (flft κ′ q′) ⊛ ‵ ftrue) ∷ ‵ (owns (MutRef (named 0) κ T.the-row ∷ u8 ∷ MutSlice (named 1) κ′ u8 ∷ O.the-row ∷ []) x at) ∷ []) ∵
+        enter ! C Λ code.function (vptr b o ∷ vint w8 n ∷ v ∷ mach-op op ∷ []) _ $
         alloc1 ! (λ l₀. alloc1 ! (λ l₁. alloc1 ! (λ l₂. alloc1 ! (λ l₃. alloc1 ! (λ l₄. alloc1 ! (λ l₅. alloc1 ! (λ l₆. alloc1 ! (λ l₇. alloc1 ! (λ l₈. alloc0 ! $ params1 ! $
-        pass1 ! (init ! 14 refl (tt, tt)) $ pass1 ! (init ! 12 refl (tt, record { fits = fits })) $ pass1 ! (init ! 10 refl (tt, (tt, (record { fits = room .0 }, tt)))) $ pass1 ! (init ! 8 refl (EL.lawful O.the-type O′.the-laws 𝓤 H A W tt .typed op _ op-is .0)) $ pass0 ! $
+        pass1 ! (init ! 14 refl (tt, tt)) $
+        pass1 ! (init ! 12 refl (tt, record { fits = fits })) $
+        pass1 ! (init ! 10 refl (tt, (tt, (record { fits = room .0 }, tt)))) $
+        pass1 ! (init ! 8 refl (EL.lawful O.the-type O′.the-laws 𝓤 H A W tt .typed op _ op-is .0)) $ pass0 ! $
         -- the borrow is opened
         move ! (19 ∷ []) $ fsplit ! $ fsplit3 ! $ drop ! $ move ! (21 ∷ []) $ split ! $ move ! (2 ∷ 3 ∷ 0 ∷ []) $
         opens ! tt T.the-row {h = h} b o (λ vs. spelt ! T.the-row (Is T.the-row) (shows 𝓤 H A T.the-row) (SL.vals T.the-type T′.the-laws) (SL.tells T.the-type T′.the-laws) fullShare h vs b o $
@@ -162,20 +185,35 @@ module _ {M : Type 1} (𝓤 : URA M) (H : Heap 𝓤) (A : Atoms 𝓤) (W : Given
         -- [the record's cell; what it owns; the open borrow; obs; auth; mem's token; what number, mem and op own; _8; …; _0; …]
         assigns ! (of-opd ! (load ! (from ! (hop ! (look ! 21 refl) (stop !))) (look-raw ! 0 refl))) (from ! (stop !)) (init ! 11 refl (SL.lawful T.the-type T′.the-laws 𝓤 H A W .typed h _ g .0)) $
         assigns ! (addr ! (from ! (fld ! refl (hop ! (look-in ! 17 (sub ! 0 refl (whole !))) (stop !))))) (from ! (stop !)) (init ! 9 refl (tt, tt)) $
-        assigns ! (agg ! (and-then ! (load ! (from ! (stop !)) (look ! 9 refl)) (and-then ! (load ! (from ! (fld ! refl (stop !))) (look-in ! 17 (sub ! 1 refl (whole !)))) (no-more !)))) (from ! (stop !)) (init ! 7 refl (tt, (tt, (record { fits = room .0 }, tt)))) $
+        assigns ! (agg ! (and-then ! (load ! (from ! (stop !)) (look ! 9 refl)) (and-then ! (load ! (from ! (fld ! refl (stop !))) (look-in ! 17 (sub ! 1 refl (whole !)))) (no-more !))))
+        (from ! (stop !)) (init ! 7 refl (tt, (tt, (record { fits = room .0 }, tt)))) $
         -- `step`
         move ! (6 ∷ []) $ fsplit ! $ drop ! $ fsplit ! $ move ! (7 ∷ 3 ∷ 0 ∷ []) $ use3 W (raw (Step 𝓤 H A at-mem run .pre to-step)) goes-step $
-        calls-at ! fm (Step 𝓤 H A at-mem run) known to-step (and-then ! (load ! (from ! (stop !)) (look ! 10 refl)) (and-then ! (load ! (from ! (stop !)) (look ! 18 refl)) (and-then ! (load ! (from ! (stop !)) (look ! 6 refl)) (and-then ! (load ! (from ! (stop !)) (look ! 14 refl)) (no-more !))))) (λ w.
-        use1 W (later (some (λ (s : Stepped). ((‵ (flft κ′ q′) ⊛ ‵ ftrue) ⊛ ‵ (B.the-row .own s (w ∷ []))) ⊛ raw (ensured 𝓤 H A step.ended (step.clauses 𝓤 H A at-mem run) (κ′, tt) (h, (n, (y, (op, tt)))) tt s)))) (id⊢ 𝓤 _) $ await ! tt $ pick ! (λ s.
-        split ! $ move ! (1 ∷ []) $ use1 W (some (λ (zs : Unit {0} × (Unit {0} × (List ℕ × (Unit {0} × Unit {0})))). ‵ (lasts step.ended (κ′, tt) (h, (n, (y, (op, tt)))) zs) ⊛ raw (fact 𝓤 ((s ≡ stepOf h ys n op) × (zs .1 .1 .0 ≡ bytesAfter h ys n op))))) (id⊢ 𝓤 _) $ pick ! (λ zs.
-        split ! $ move ! (1 ∷ []) $ heard ! ((s ≡ stepOf h ys n op) × (zs .1 .1 .0 ≡ bytesAfter h ys n op)) (λ e. fsplit ! $ drop ! $ fsplit ! $ drop ! $ fsplit ! $ fsplit ! $ move ! (1 ∷ []) $ feqL ! (λ l.
+        calls-at ! fm (Step 𝓤 H A at-mem run) known to-step
+        (and-then ! (load ! (from ! (stop !)) (look ! 10 refl))
+        (and-then ! (load ! (from ! (stop !)) (look ! 18 refl))
+        (and-then ! (load ! (from ! (stop !)) (look ! 6 refl))
+        (and-then ! (load ! (from ! (stop !)) (look ! 14 refl)) (no-more !))))) (λ w.
+        use1 W
+        (later (some (λ (s : Stepped). ((‵ (flft κ′ q′) ⊛ ‵ ftrue) ⊛ ‵ (B.the-row .own s (w ∷ [])))
+        ⊛ raw (ensured 𝓤 H A step.ended (step.clauses 𝓤 H A at-mem run) (κ′, tt) (h, (n, (y, (op, tt)))) tt s))))
+        (id⊢ 𝓤 _) $ await ! tt $ pick ! (λ s.
+        split ! $ move ! (1 ∷ []) $ use1 W
+        (some (λ (zs : Unit {0} × (Unit {0} × (List ℕ × (Unit {0} × Unit {0})))).
+        ‵ (lasts step.ended (κ′, tt) (h, (n, (y, (op, tt)))) zs) ⊛ raw (fact 𝓤 ((s ≡ stepOf h ys n op) × (zs .1 .1 .0 ≡ bytesAfter h ys n op)))))
+        (id⊢ 𝓤 _) $ pick ! (λ zs.
+        split ! $ move ! (1 ∷ []) $ heard ! ((s ≡ stepOf h ys n op) × (zs .1 .1 .0 ≡ bytesAfter h ys n op)) (λ e.
+        fsplit ! $ drop ! $ fsplit ! $ drop ! $ fsplit ! $ fsplit ! $ move ! (1 ∷ []) $ feqL ! (λ l.
         move ! (2 ∷ []) $ split ! $ move ! (1 ∷ []) $ peeks ! B.the-row (Is B.the-row) (shows 𝓤 H A B.the-row) s (w ∷ []) (λ is.
         -- [what the result owns; mem's token; the last bytes; true; what op owns; the cell; the open borrow; obs; auth; _8; …; _0; …]
         land ! (from ! (stop !)) (init ! 15 refl (SL.lawful B.the-type B′.the-laws 𝓤 H A W .typed s _ is .0)) $
         -- `channel_of`, and the store
         use1 W (raw (ChannelOf 𝓤 H A at-mem run .pre (to-channel s w))) (goes-channel s w) $
         calls-at ! fm (ChannelOf 𝓤 H A at-mem run) known-channel (to-channel s w) (and-then ! (load ! (from ! (stop !)) (look ! 15 refl)) (no-more !)) (λ w₁.
-        use1 W (later (some (λ (d : Channel). (‵ ftrue ⊛ ‵ (T.the-row .own d (w₁ ∷ []))) ⊛ raw (ensured 𝓤 H A channel-of.ended (channel-of.clauses 𝓤 H A at-mem run) tt (s, tt) tt d)))) (id⊢ 𝓤 _) $ await ! tt $ pick ! (λ d.
+        use1 W
+        (later (some (λ (d : Channel). (‵ ftrue ⊛ ‵ (T.the-row .own d (w₁ ∷ [])))
+        ⊛ raw (ensured 𝓤 H A channel-of.ended (channel-of.clauses 𝓤 H A at-mem run) tt (s, tt) tt d))))
+        (id⊢ 𝓤 _) $ await ! tt $ pick ! (λ d.
         split ! $ move ! (1 ∷ []) $ use1 W (raw (fact 𝓤 (d ≡ s .channel))) (channel-said 𝓤 H A at-mem run s d) $ heard ! (d ≡ s .channel) (λ e₁. split ! $ drop ! $
         peeks ! T.the-row (Is T.the-row) (shows 𝓤 H A T.the-row) d (w₁ ∷ []) (λ is₁.
         land ! (from ! (stop !)) (store ! 13 refl (SL.lawful T.the-type T′.the-laws 𝓤 H A W .typed d _ is₁ .0)) $
@@ -183,31 +221,54 @@ module _ {M : Type 1} (𝓤 : URA M) (H : Heap 𝓤) (A : Atoms 𝓤) (W : Given
         -- `answer_of`
         owned ! B.the-row (Is B.the-row) (SL.makes B.the-type B′.the-plain 𝓤 H A) s _ is $ use1 W (raw (AnswerOf 𝓤 H A at-mem run .pre (to-answer s w))) (goes-answer s w) $
         calls-at ! fm (AnswerOf 𝓤 H A at-mem run) known-answer (to-answer s w) (and-then ! (load ! (from ! (stop !)) (look ! 16 refl)) (no-more !)) (λ w₂.
-        use1 W (later (some (λ (a : Answer). (‵ ftrue ⊛ ‵ (R.the-row .own a (w₂ ∷ []))) ⊛ raw (ensured 𝓤 H A answer-of.ended (answer-of.clauses 𝓤 H A at-mem run) tt (s, tt) tt a)))) (id⊢ 𝓤 _) $ await ! tt $ pick ! (λ a.
+        use1 W
+        (later (some (λ (a : Answer). (‵ ftrue ⊛ ‵ (R.the-row .own a (w₂ ∷ [])))
+        ⊛ raw (ensured 𝓤 H A answer-of.ended (answer-of.clauses 𝓤 H A at-mem run) tt (s, tt) tt a))))
+        (id⊢ 𝓤 _) $ await ! tt $ pick ! (λ a.
         split ! $ move ! (1 ∷ []) $ use1 W (raw (fact 𝓤 (a ≡ s .answer))) (answer-said 𝓤 H A at-mem run s a) $ heard ! (a ≡ s .answer) (λ e₂. split ! $ drop ! $
         peeks ! R.the-row (Is R.the-row) (shows 𝓤 H A R.the-row) a (w₂ ∷ []) (λ is₂.
         land ! (from ! (stop !)) (init ! 26 refl (SL.lawful R.the-type R′.the-laws 𝓤 H A W .typed a _ is₂ .0)) $
         -- the borrow is closed at the new record, and the locals are freed
         move ! (6 ∷ 1 ∷ 7 ∷ 8 ∷ 9 ∷ []) $ closes ! tt T.the-row d (w₁ ∷ []) b o $
-        returns ! (look ! 24 refl) $ forget ! 8 refl $ forget ! 10 refl $ forget ! 12 refl $ forget ! 14 refl $ forget ! 16 refl $ forget ! 18 refl $ forget ! 20 refl $ forget ! 22 refl $ forget ! 24 refl $
-        move ! (24 ∷ 25 ∷ []) $ free1 ! $ move ! (22 ∷ 23 ∷ []) $ free1 ! $ move ! (20 ∷ 21 ∷ []) $ free1 ! $ move ! (18 ∷ 19 ∷ []) $ free1 ! $ move ! (16 ∷ 17 ∷ []) $ free1 ! $ move ! (14 ∷ 15 ∷ []) $ free1 ! $ move ! (12 ∷ 13 ∷ []) $ free1 ! $ move ! (10 ∷ 11 ∷ []) $ free1 ! $ move ! (8 ∷ 9 ∷ []) $ free1 ! $ free0 ! $
-        keep ! (0 ∷ 1 ∷ 2 ∷ 4 ∷ 5 ∷ 3 ∷ []) $ by ! (exits d (zs .1 .1 .0) a w₂ (e₂ ∙ ap (λ (z : Stepped). z .answer) (e .0), e₁ ∙ ap (λ (z : Stepped). z .channel) (e .0), e .1) l))))))))))))))))))))))))))
+        returns ! (look ! 24 refl) $
+        forget ! 8 refl $ forget ! 10 refl $ forget ! 12 refl $ forget ! 14 refl $ forget ! 16 refl $ forget ! 18 refl $ forget ! 20 refl $ forget ! 22 refl $ forget ! 24 refl $
+        move ! (24 ∷ 25 ∷ []) $ free1 ! $ move ! (22 ∷ 23 ∷ []) $ free1 ! $ move ! (20 ∷ 21 ∷ []) $ free1 ! $ move ! (18 ∷ 19 ∷ []) $ free1 ! $
+        move ! (16 ∷ 17 ∷ []) $ free1 ! $ move ! (14 ∷ 15 ∷ []) $ free1 ! $ move ! (12 ∷ 13 ∷ []) $ free1 ! $ move ! (10 ∷ 11 ∷ []) $ free1 ! $ move ! (8 ∷ 9 ∷ []) $ free1 ! $ free0 ! $
+        keep ! (0 ∷ 1 ∷ 2 ∷ 4 ∷ 5 ∷ 3 ∷ []) $
+        by ! (exits d (zs .1 .1 .0) a w₂ (e₂ ∙ ap (λ (z : Stepped). z .answer) (e .0), e₁ ∙ ap (λ (z : Stepped). z .channel) (e .0), e .1) l))))))))))))))))))))))))))
 
 -- the walk at every argument, with the machine values that the parameters' types tell
 module _ {M : Type 1} (𝓤 : URA M) (H : Heap 𝓤) (A : Atoms 𝓤) (W : Given 𝓤 H A) (at-mem : Memory → SProp 𝓤) (run : Routine → Fun 𝓤) where
-  step-lent-walks : (C : Calls 𝓤 H) (Λ : Loops 𝓤 H) → FmC 𝓤 H (W .laws) C → Triple 𝓤 (C #step) (Step 𝓤 H A at-mem run) → Triple 𝓤 (C #channel-of) (ChannelOf 𝓤 H A at-mem run) → Triple 𝓤 (C #answer-of) (AnswerOf 𝓤 H A at-mem run)
+  step-lent-walks : (C : Calls 𝓤 H) (Λ : Loops 𝓤 H) → FmC 𝓤 H (W .laws) C
+      → Triple 𝓤 (C #step) (Step 𝓤 H A at-mem run)
+      → Triple 𝓤 (C #channel-of) (ChannelOf 𝓤 H A at-mem run)
+      → Triple 𝓤 (C #answer-of) (AnswerOf 𝓤 H A at-mem run)
       → Walks 𝓤 H A step-lent.ended stayed (WpFn 𝓤 H C Λ code.function) (step-lent.clauses 𝓤 H A at-mem run)
   step-lent-walks C Λ fm known known-channel known-answer = walked 𝓤 H A step-lent.ended stayed (step-lent.clauses 𝓤 H A at-mem run) (WpFn 𝓤 H C Λ code.function)
-      (λ κs. (ptr-vals, (uint-vals w8, (slice-vals, (EL.vals O.the-type O′.the-laws, tt))))) (λ κs. (mut-tells (named 0) (κs .0) T.the-row, (uint-tells w8, (mut-slice-tells (named 1) (κs .1 .0) u8, (EL.tells O.the-type O′.the-laws, tt)))))
-      (λ κs qs bounds a g are. via 𝓤 _ (fst∗ 𝓤 _ (emp 𝓤)) (walk 𝓤 H A W at-mem run (κs .0) (κs .1 .0) (qs .0) (qs .1 .0) (a .0 .ptr .0) (a .0 .ptr .1) (a .0 .name) (a .0 .now) (a .1 .0) (are .1 .0 .1) (a .1 .1 .0 .ptr .0) (a .1 .1 .0 .ptr .1) (a .1 .1 .0 .name) (a .1 .1 .0 .now) (a .1 .1 .1 .0) (are .1 .1 .1 .0) C Λ fm known known-channel known-answer (are .1 .1 .0 .0 .1)))
+      (λ κs. (ptr-vals, (uint-vals w8, (slice-vals, (EL.vals O.the-type O′.the-laws, tt)))))
+      (λ κs. (mut-tells (named 0) (κs .0) T.the-row, (uint-tells w8, (mut-slice-tells (named 1) (κs .1 .0) u8, (EL.tells O.the-type O′.the-laws, tt)))))
+      (λ κs qs bounds a g are. via 𝓤 _ (fst∗ 𝓤 _ (emp 𝓤))
+      (walk 𝓤 H A W at-mem run (κs .0) (κs .1 .0) (qs .0) (qs .1 .0)
+      (a .0 .ptr .0) (a .0 .ptr .1) (a .0 .name) (a .0 .now)
+      (a .1 .0) (are .1 .0 .1)
+      (a .1 .1 .0 .ptr .0) (a .1 .1 .0 .ptr .1) (a .1 .1 .0 .name) (a .1 .1 .0 .now)
+      (a .1 .1 .1 .0) (are .1 .1 .1 .0)
+      C Λ fm known known-channel known-answer (are .1 .1 .0 .0 .1)))
 
   goes : AllGo 𝓤 H A W 2 (step-lent.signature .params) (step-lent.ended .kept) stayed
-  goes = (goes-ref 𝓤 H A W 2 0 tt (plain (λ _. T.the-row)), (goes-none 𝓤 H A W 2 (λ _. u8) yes (λ κs x f. refl), (goes-gave-slice 𝓤 H A W 2 1 tt (plain (λ _. u8)), (goes-none 𝓤 H A W 2 (λ _. O.the-row) yes (λ κs x f. refl), tt))))
+  goes = (
+    goes-ref 𝓤 H A W 2 0 tt (plain (λ _. T.the-row)),
+    (goes-none 𝓤 H A W 2 (λ _. u8) yes (λ κs x f. refl), (goes-gave-slice 𝓤 H A W 2 1 tt (plain (λ _. u8)), (goes-none 𝓤 H A W 2 (λ _. O.the-row) yes (λ κs x f. refl), tt))),
+  )
 
-step-lent-meets : {M : Type 1} (𝓤 : URA M) (H : Heap 𝓤) (A : Atoms 𝓤) → Given 𝓤 H A → (at-mem : Memory → SProp 𝓤) (run : Routine → Fun 𝓤) (𝓣 : Tables 𝓤 H) → Triple 𝓤 (𝓣 .C #step) (Step 𝓤 H A at-mem run)
-    → Triple 𝓤 (𝓣 .C #channel-of) (ChannelOf 𝓤 H A at-mem run) → Triple 𝓤 (𝓣 .C #answer-of) (AnswerOf 𝓤 H A at-mem run)
+step-lent-meets : {M : Type 1} (𝓤 : URA M) (H : Heap 𝓤) (A : Atoms 𝓤) → Given 𝓤 H A → (at-mem : Memory → SProp 𝓤) (run : Routine → Fun 𝓤) (𝓣 : Tables 𝓤 H)
+    → Triple 𝓤 (𝓣 .C #step) (Step 𝓤 H A at-mem run)
+    → Triple 𝓤 (𝓣 .C #channel-of) (ChannelOf 𝓤 H A at-mem run)
+    → Triple 𝓤 (𝓣 .C #answer-of) (AnswerOf 𝓤 H A at-mem run)
     → Meets 𝓤 H A step-lent.signature (WpFn 𝓤 H (𝓣 .C) (𝓣 .Λ) code.function) (step-lent.spec 𝓤 H A at-mem run)
-step-lent-meets 𝓤 H A W at-mem run 𝓣 known known-channel known-answer = walk-meets 𝓤 H A step-lent.ended stayed W (goes 𝓤 H A W at-mem run) (step-lent.clauses 𝓤 H A at-mem run) (WpFn 𝓤 H (𝓣 .C) (𝓣 .Λ) code.function) (WpFn-mono 𝓤 H (W .laws) 𝓣 code.function)
+step-lent-meets 𝓤 H A W at-mem run 𝓣 known known-channel known-answer =
+    walk-meets 𝓤 H A step-lent.ended stayed W (goes 𝓤 H A W at-mem run) (step-lent.clauses 𝓤 H A at-mem run)
+    (WpFn 𝓤 H (𝓣 .C) (𝓣 .Λ) code.function) (WpFn-mono 𝓤 H (W .laws) 𝓣 code.function)
     (step-lent-walks 𝓤 H A W at-mem run (𝓣 .C) (𝓣 .Λ) (fmOf 𝓤 H (W .laws) 𝓣) known known-channel known-answer)
 
 -- of the three callees nothing is used but that each meets its contract

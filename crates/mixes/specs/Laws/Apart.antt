@@ -26,6 +26,11 @@ module _ {S Step Ans : Type 0} where
     pub state : ends M s l ≡ ends M s r
     pub answers : (c : ℕ) → only M c (log M s l) ≡ only M c (log M s r)
 
+-- every element has Q, if each has P and Q follows
+pub all-map : {A : Type 0} (P Q : A → Type 0) → ((a : A) → P a → Q a) → (l : List A) → All P l → All Q l
+all-map P Q f [] h = tt
+all-map P Q f (a ∷ l) h = (f a (h .0), all-map P Q f l (h .1))
+
 -- of a log, an entry that concerns the channel asked for
 abbrev keep : {A : Type 0} → Bool → A → List A → List A
 keep b a l = if b then a ∷ l else l

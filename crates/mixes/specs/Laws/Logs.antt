@@ -5,7 +5,7 @@ use mathlib.Core.List.{List, [], _∷_}
 use borrow.Author.Tests.{eqb-false}
 use Rattle.mixes.specs.Mix.{Mix, All, Machine, ends, log}
 use Rattle.mixes.specs.Mix.Mix.{done, first, second, third}
-use Rattle.mixes.specs.Laws.Apart.{Apart, StepOf}
+use Rattle.mixes.specs.Laws.Apart.{Apart, StepOf, all-map}
 
 module _ {S Step Ans : Type 0} (M : Machine S Step Ans) (good : S → Type 0) (may : Step → Type 0) (apart : Apart M good may) where
   -- steps of channels other than b's
@@ -40,8 +40,7 @@ module _ {S Step Ans : Type 0} (M : Machine S Step Ans) (good : S → Type 0) (m
 
   others : (b : Step) (c d : ℕ) (l : List Step) → M .owner b ≡ d → (c ≡ d → ⊥) → All (StepOf M may c) l → Others b l
   unfolding Others
-  others b c d [] e ne h = tt
-  others b c d (a ∷ l) e ne h = ((h .0 .0, λ q. ne (sym (h .0 .1) ∙ q ∙ e)), others b c d l e ne (h .1))
+  others b c d l e ne h = all-map (StepOf M may c) (λ a. may a × (M .owner a ≡ M .owner b → ⊥)) (λ a h. (h .0, λ q. ne (sym (h .1) ∙ q ∙ e))) l h
 
   goods : (c : ℕ) (l : List Step) (s : S) → good s → All (StepOf M may c) l → good (ends M s l)
   goods c [] s g h = g

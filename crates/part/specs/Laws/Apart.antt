@@ -8,14 +8,13 @@ use lib.ListN.{length}
 use lib.Seq.{getD-set-other}
 use Rattle.laws.specs.Pick.{if_then_else_}
 use Rattle.channel.specs.declared.step.Op.{Op}
-use Rattle.channel.specs.declared.step.Op.the-variants.{Write, Read, Wire}
 use Rattle.channel.specs.Step.{servedBy}
 use Rattle.part.specs.declared.map.Step.{Step}
 use Rattle.part.specs.declared.map.Target.the-variants.{One}
 use Rattle.part.specs.declared.state.Part.{Part}
 use Rattle.part.specs.State.{blank, chan, window}
 use Rattle.part.specs.Map.{targetOf}
-use Rattle.part.specs.Step.{beAfter, keyKept, oneStep, oneBytes, partServed, partStored, accepts, partStep, partBytes}
+use Rattle.part.specs.Step.{beAfter, oneStep, oneBytes, partServed, partStored, accepts, partStep, partBytes}
 use Rattle.part.specs.Laws.Map.{one-in-part}
 use Rattle.part.specs.Laws.Memory.{fits, window-other}
 use Rattle.part.specs.Laws.Range.{accepts-whole, step-accepted, bytes-accepted, step-refused, bytes-refused}
@@ -49,27 +48,13 @@ module _ (p : Part) (m : List ℕ) (c : ℕ) (op : Op) where
     pub leaves-others : Others c p m (partStep p m s .part) (partBytes p m s)
     leaves-others = others (accepts p (length m)) refl
 
--- ---- of what the channels share, no step tells which of two came first
-
--- BE is only ever set
+-- BE, which the channels share, is only ever set: it does not tell which of two answers came first
 pub be-swap : (be : Bool) (x y : ℕ) → beAfter (beAfter be x) y ≡ beAfter (beAfter be y) x
 unfolding beAfter if_then_else_
-be-swap be x y = both-set (eqb x 5) (eqb y 5)
+be-swap be x y = go (eqb x 5) refl (eqb y 5) refl
   where
-    both-set : (a b : Bool) → (if b then true else (if a then true else be)) ≡ (if a then true else (if b then true else be))
-    both-set true true = refl
-    both-set true false = refl
-    both-set false true = refl
-    both-set false false = refl
-
--- CTRLPRESET's key is only ever forgotten
-pub key-swap : (x y : Op) (key : Bool) → keyKept y (keyKept x key) ≡ keyKept x (keyKept y key)
-key-swap (Write a v) (Write b w) key = refl
-key-swap (Write a v) (Read b) key = refl
-key-swap (Write a v) (Wire e) key = refl
-key-swap (Read a) (Write b w) key = refl
-key-swap (Read a) (Read b) key = refl
-key-swap (Read a) (Wire e) key = refl
-key-swap (Wire e) (Write b w) key = refl
-key-swap (Wire e) (Read b) key = refl
-key-swap (Wire e) (Wire f) key = refl
+    go : (a : Bool) → eqb x 5 ≡ a → (b : Bool) → eqb y 5 ≡ b → beAfter (beAfter be x) y ≡ beAfter (beAfter be y) x
+    go true p true q = rw (p, q)
+    go true p false q = rw (p, q)
+    go false p true q = rw (p, q)
+    go false p false q = rw (p, q)

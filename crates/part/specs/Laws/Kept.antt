@@ -5,26 +5,26 @@ use mathlib.Core.List.{List, [], _∷_, map}
 use mathlib.Core.Path.{_≡_, refl, sym, _∙_}
 use native.Mathlib.Omega.{arith}
 use borrow.Author.Tests.{eq-eqb}
-use lib.ListN.{length, getD, set, length-replicate}
+use lib.ListN.{length, set, length-replicate}
 use Rattle.laws.specs.Cases.{pick-holds, both, with}
 use Rattle.rules.specs.Access.{keyAfter, resetsOf}
 use Rattle.sequence.specs.declared.wires.Edge.{Edge}
 use Rattle.channel.specs.declared.state.Channel.{Channel}
 use Rattle.channel.specs.declared.step.Op.{Op}
 use Rattle.channel.specs.Range.{inRange}
-use Rattle.channel.specs.Step.{servedBy, servedStore, Accepted}
+use Rattle.channel.specs.Step.{servedStore, Accepted}
 use Rattle.channel.specs.Laws.Kept.{serves-in-range, fresh-in-range, served-length}
 use Rattle.channel.specs.Laws.Frames.{trigger-in-range}
 use Rattle.part.specs.declared.map.Ctrl.{Ctrl}
 use Rattle.part.specs.declared.map.Ctrl.the-variants.{Ctrlstatus, Ctrlintmsk, Reserved, DeviceId, Ctrlpreset, Nothing, Ctrlrdy}
 use Rattle.part.specs.declared.map.Step.{Step}
 use Rattle.part.specs.declared.map.Target.{Target}
-use Rattle.part.specs.declared.map.Common.{Common}
+use Rattle.part.specs.declared.map.Wide.{Wide}
 use Rattle.part.specs.declared.map.Target.the-variants.{One, All}
-use Rattle.part.specs.declared.map.Common.the-variants.{CtrlWrite, CtrlRead, AllTrigger, AllReset, Beyond}
+use Rattle.part.specs.declared.map.Wide.the-variants.{CtrlWrite, CtrlRead, AllTrigger, AllReset, Beyond}
 use Rattle.part.specs.declared.state.Part.{Part}
 use Rattle.part.specs.declared.state.PartStepped.{PartStepped}
-use Rattle.part.specs.State.{blank, chan, freshPart, wiped, window, withKey}
+use Rattle.part.specs.State.{chan, freshPart, wiped, window, withKey}
 use Rattle.part.specs.Map.{targetOf, InPart}
 use Rattle.part.specs.Registers.{ctrlKept, ctrlRead, ctrlWritten, ctrlpresetOf, ctrlPut, ctrlStore}
 use Rattle.part.specs.Step.{edgeChannel, allServed, allStored, oneStep, oneBytes, triggerStep, partServed, partStored, channelsIn, maskIn, partIn, accepts, partStep, partBytes, Whole}
@@ -32,12 +32,12 @@ use Rattle.part.specs.Laws.Map.{in-part}
 use Rattle.part.specs.Laws.Memory.{fits, length-window, length-put}
 use Rattle.part.specs.Laws.Range.{accepts-whole, chan-in-range}
 
--- ---- the channels
-set-in : (f : Channel → Channel) → ((x : Channel) → inRange x ≡ true → inRange (f x) ≡ true) → (l : List Channel) (c : ℕ) → channelsIn l ≡ true → channelsIn (set l c (f (getD l c blank))) ≡ true
+-- ---- the channels: with one in range in c's place, and each by a function that keeps it in range
+pub set-in : (l : List Channel) (c : ℕ) (x : Channel) → channelsIn l ≡ true → inRange x ≡ true → channelsIn (set l c x) ≡ true
 unfolding channelsIn
-set-in f k [] c e = e
-set-in f k (x ∷ l) zero e = let b = both _ _ e in with _ _ (k x (b .0)) (b .1)
-set-in f k (x ∷ l) (suc c) e = let b = both _ _ e in with _ _ (b .0) (set-in f k l c (b .1))
+set-in [] c x e h = e
+set-in (y ∷ l) zero x e h = with _ _ h (both _ _ e .1)
+set-in (y ∷ l) (suc c) x e h = let b = both _ _ e in with _ _ (b .0) (set-in l c x (b .1) h)
 
 map-in : (f : Channel → Channel) → ((x : Channel) → inRange x ≡ true → inRange (f x) ≡ true) → (l : List Channel) → channelsIn l ≡ true → channelsIn (map f l) ≡ true
 unfolding channelsIn
@@ -66,7 +66,7 @@ fresh-in = (with _ _ fresh-in-range (with _ _ fresh-in-range (with _ _ fresh-in-
 module _ (p : Part) (h : In p) where
   one-in : (m : List ℕ) (c : ℕ) (op : Op) → Good (oneStep p m c op)
   unfolding Good oneStep
-  one-in m c op = (set-in (λ x. servedBy x (window c m) c op .channel) (λ x e. serves-in-range x (window c m) c op e) (p .channels) c (h .0), h .1)
+  one-in m c op = (set-in (p .channels) c _ (h .0) (serves-in-range (chan p c) (window c m) c op (chan-in-range p c (of-in p h))), h .1)
 
   trigger-in : (edge : Edge) → Good (triggerStep p edge)
   unfolding Good triggerStep
@@ -99,7 +99,7 @@ module _ (p : Part) (h : In p) where
   unfolding ctrlPut Good
   put-in reg v = pick-holds Good (resetsOf (ctrlpresetOf reg) v (p .key)) (λ _. fresh-in) (λ _. written-in (keyAfter (ctrlpresetOf reg) v) reg v)
 
-  all-in : (t : Common) → Good (allServed p t)
+  all-in : (t : Wide) → Good (allServed p t)
   unfolding allServed Good
   all-in (CtrlWrite reg v) = put-in reg v
   all-in (CtrlRead reg) = read-in reg
@@ -111,11 +111,6 @@ module _ (p : Part) (h : In p) where
   unfolding partServed
   served-in m (One op c) = one-in m c op
   served-in m (All t) = all-in t
-
--- a channel's step does not lead out of range
-pub one-in-range : (p : Part) (m : List ℕ) (c : ℕ) (op : Op) → partIn p ≡ true → partIn (oneStep p m c op .part) ≡ true
-unfolding Good
-one-in-range p m c op e = of-in _ (one-in p (in-of p e) m c op)
 
 -- NO STEP LEADS OUT OF RANGE
 pub part-stays-in-range : (p : Part) (m : List ℕ) (s : Step) → partIn p ≡ true → partIn (partStep p m s .part) ≡ true
@@ -140,11 +135,11 @@ module _ (p : Part) (m : List ℕ) (whole : length m ≡ 13056) where
   pub one-length : (c : ℕ) (op : Op) → c < 3 → length (servedStore (chan p c) (window c m) c op) ≡ 4352
   one-length c op h = let w = length-window c m (fits c m h whole) in served-length (chan p c) (window c m) c w op ∙ w
 
-  pub one-bytes-length : (c : ℕ) (op : Op) → c < 3 → length (oneBytes p m c op) ≡ length m
+  one-bytes-length : (c : ℕ) (op : Op) → c < 3 → length (oneBytes p m c op) ≡ length m
   unfolding oneBytes
   one-bytes-length c op h = length-put c _ m (one-length c op h) (fits c m h whole)
 
-  all-length : (t : Common) → length (allStored p m t) ≡ length m
+  all-length : (t : Wide) → length (allStored p m t) ≡ length m
   unfolding allStored ctrlStore Same
   all-length (CtrlWrite reg v) = pick-holds (Same m) (resetsOf (ctrlpresetOf reg) v (p .key)) (λ _. wiped-length ∙ sym whole) (λ _. refl)
   all-length (CtrlRead reg) = refl

@@ -15,7 +15,7 @@ use Rattle.laws.specs.Pick.{if_then_else_}
 use Rattle.laws.specs.Sets.{sets-append}
 use Rattle.laws.specs.Cases.{flag-true, flag-false, false-not-true}
 use Rattle.sequence.specs.declared.wires.Action.{Action}
-use Rattle.script.specs.Answer.{Put, textIf, digitsOf, busyOf, orOf, actionOf, joined, roomy}
+use Rattle.script.specs.Answer.{Put, textIf, digitsOf, busyOf, orOf, actionOf, joined, answerRoom, roomy}
 
 -- nothing is put
 put-none : (l : List ℕ) (at : ℕ) → Put l at [] at l
@@ -179,16 +179,16 @@ put-dash l at a b c e =
     rw (one .0, one .1, two .1) (record { place = refl; bytes = refl })
 
 -- ---- room for a line
-pub room-none : (len at : ℕ) → len < 80 → false ≡ roomy len at
-room-none len at h = let k : len < at + 80 = omega arith in sym (lt-leb _ _ k)
+pub room-none : (len at : ℕ) → len < answerRoom → false ≡ roomy len at
+room-none len at h = let k : len < at + answerRoom = omega arith in sym (lt-leb _ _ k)
 
-pub room-past : (len at : ℕ) → 80 ≤ len → len - 80 < at → false ≡ roomy len at
-room-past len at h p = let k : len < at + 80 = omega arith in sym (lt-leb _ _ k)
+pub room-past : (len at : ℕ) → answerRoom ≤ len → len - answerRoom < at → false ≡ roomy len at
+room-past len at h p = let k : len < at + answerRoom = omega arith in sym (lt-leb _ _ k)
 
-pub room-left : (len at : ℕ) → 80 ≤ len → at ≤ len - 80 → true ≡ roomy len at
-room-left len at h p = let k : at + 80 ≤ len = omega arith in sym (le-leb _ _ k)
+pub room-left : (len at : ℕ) → answerRoom ≤ len → at ≤ len - answerRoom → true ≡ roomy len at
+room-left len at h p = let k : at + answerRoom ≤ len = omega arith in sym (le-leb _ _ k)
 
-pub room-is : (len at : ℕ) (b : Bool) → b ≡ roomy len at → b ≡ true → at + 80 ≤ len
-room-is len at b p e = leb-true (at + 80) len (sym p ∙ e)
+pub room-is : (len at : ℕ) (b : Bool) → b ≡ roomy len at → b ≡ true → at + answerRoom ≤ len
+room-is len at b p e = leb-true (at + answerRoom) len (sym p ∙ e)
 
 pub ruleset rooms = (room-none, room-past, room-left, room-is, needs)

@@ -15,16 +15,40 @@ Inv-loop mem₀ i₀ mem i = (i ≤ length mem₀) × (length mem ≡ length mem
 abbrev μ-loop : tie.MeasureT-loop
 μ-loop mem₀ i₀ mem i = length mem - i
 
+loop-holds : tie.Need-loop-holds Inv-loop μ-loop
+loop-holds c = search needs
+
+slice-write-mem : tie.Need-slice-write-mem Inv-loop μ-loop
+slice-write-mem c = search needs
+
+add-i : tie.Need-add-i Inv-loop μ-loop
+add-i c = search needs
+
+loop-less : tie.Need-loop-less Inv-loop μ-loop
+loop-less c = simp length-set (omega arith)
+
+loop-again : tie.Need-loop-again Inv-loop μ-loop
+loop-again c =
+    let turn = c .before .loop in
+    let i = turn .i in
+    let d = c .before .before .args .mem .now in
+    let h : i < length d = omega arith in
+    (omega arith, simp length-set (turn .inv .1), ap (λ (l : List ℕ). set l i 0) (turn .inv .2) ∙ fill-more i 0 d h)
+
+same-length : tie.Need-same-length Inv-loop μ-loop
+same-length c = search needs
+
+returns : tie.Need-returns Inv-loop μ-loop
+returns c =
+    let turn = c .before .loop in
+    let i = turn .i in
+    let d = c .before .before .args .mem .now in
+    let e : i ≡ length d = omega arith in
+    let h : length d ≤ i = omega arith in
+    turn .inv .2
+    ∙ ap (λ (l : List ℕ). replicate i 0 ++ l) (drop-of-length-le d h)
+    ∙ append-nil _
+    ∙ ap (λ (n : ℕ). replicate n 0) e
+
 pub wipe-spec : {M : Type 1} → statement M
-wipe-spec =
-    tie.close
-    (tie.spec
-    Inv-loop
-    μ-loop
-    (λ c. search needs)
-    (λ c. search needs)
-    (λ c. search needs)
-    (λ c. simp length-set (omega arith))
-    (λ c. let i = c .before .loop .i in let d = c .before .before .args .mem .now in let h : i < length d = omega arith in (omega arith, simp length-set (c .before .loop .inv .1), ap (λ (l : List ℕ). set l i 0) (c .before .loop .inv .2) ∙ fill-more i 0 d h))
-    (λ c. search needs)
-    (λ c. let i = c .before .loop .i in let d = c .before .before .args .mem .now in let e : i ≡ length d = omega arith in let h : length d ≤ i = omega arith in c .before .loop .inv .2 ∙ ap (λ (l : List ℕ). replicate i 0 ++ l) (drop-of-length-le d h) ∙ append-nil _ ∙ ap (λ (n : ℕ). replicate n 0) e))
+wipe-spec = tie.close (tie.spec Inv-loop μ-loop loop-holds slice-write-mem add-i loop-less loop-again same-length returns)

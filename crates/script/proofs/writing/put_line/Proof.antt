@@ -2,6 +2,7 @@
 use Rattle.script.proofs.Laws.Writing.{put-then}
 use Rattle.script.specs.Answer.{answerLine}
 use borrow.Author.Needs.{needs}
+use native.Mathlib.Omega.{arith}
 use Rattle.script.proofs.writing.put_line.Statement.{statement}
 use Rattle.script.proofs.writing.put_line.Tie as tie
 
@@ -26,7 +27,9 @@ put-line-spec =
     let s = t .before .before .before .before in
     let r = s .before .before .before .before in
     let q = r .before .before .before .before .before in
-    let p = q .before .before .before .before .before in
-    put-then (p .put-decimal .ensures .0)
-    (put-then (q .put .ensures)
-    (put-then (r .put-decimal2 .ensures .0) (put-then (s .put-middle .ensures) (put-then (t .put-actions .ensures .0) (u .put2 .ensures)))))))
+    let p = q .before .before .before .before .before in (
+      put-then (p .put-decimal .ensures .0)
+          (put-then (q .put .ensures)
+          (put-then (r .put-decimal2 .ensures .0) (put-then (s .put-middle .ensures) (put-then (t .put-actions .ensures .0) (u .put2 .ensures))))),
+      omega (arith, p .put-decimal .ensures .1, q .put .ensures .place, r .put-decimal2 .ensures .1, s .put-middle .ensures .place, t .put-actions .ensures .1, u .put2 .ensures .place),
+    )))

@@ -11,5 +11,5 @@ write-answer-spec =
     (λ c. search needs)
     (λ c. λ κs. room-is _ _ _ (c .before .before .has-room .ensures) (c .before .if1 .taken))
     (λ c. search needs)
-    (λ c. search puts)
-    (λ c. search puts))
+    (λ c. let e = c .before .before .put-line .ensures in (search puts, e .1))
+    (λ c. (search puts, search needs)))

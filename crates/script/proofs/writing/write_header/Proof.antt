@@ -1,11 +1,20 @@
 -- `script::writing::write_header` meets its contract.
 use Prim.Native.Nat.{_≤_, _+_}
 use Rattle.script.proofs.Laws.Writing.{puts, room-is}
+use Rattle.script.specs.Answer.{answerRoom}
 use borrow.Author.Needs.{needs}
 use lib.ListN.{length}
 use native.Mathlib.Omega.{arith}
 use Rattle.script.proofs.writing.write_header.Statement.{statement}
 use Rattle.script.proofs.writing.write_header.Tie as tie
+
+put-requires : tie.Need-put-requires
+put-requires c κs =
+    let test = c .before .before in
+    let room = test .before in
+    let a = room .before .before .args in
+    let h : a .at + answerRoom ≤ length (a .out .now) = room-is _ _ _ (room .has-room .ensures) (test .if1 .taken) in
+    omega arith
 
 pub write-header-spec : {M : Type 1} → statement M
 write-header-spec =
@@ -13,7 +22,7 @@ write-header-spec =
     (tie.spec
     (λ c. search needs)
     (λ c. search needs)
-    (λ c. λ κs. let h : c .before .before .before .before .before .args .at + 80 ≤ length (c .before .before .before .before .before .args .out .now) = room-is _ _ _ (c .before .before .before .has-room .ensures) (c .before .before .if1 .taken) in omega arith)
+    put-requires
     (λ c. search needs)
     (λ c. search puts)
     (λ c. search puts))

@@ -4,8 +4,30 @@ use borrow.Author.Needs.{needs}
 use Rattle.channel.proofs.state.Head.ack_sending.Statement.{statement}
 use Rattle.channel.proofs.state.Head.ack_sending.Tie as tie
 
-pub ack-sending-spec : {M : Type 1} → statement M
+send-on-requires : tie.Need-send-on-requires
+send-on-requires c κs =
+    let x = c .before .before .before in
+    let len = x .before .before .before .before in
+    let start = len .before .before .before in
+    (start .pre .0 .running, rw (← len .byte .ensures .0) (x .next-byte .ensures .1), start .pre .1)
+
+returns : tie.Need-returns
 unfolding ackSending countedOne
+returns c set =
+    let counted = c .before .before in
+    let x = counted .before .before in
+    let k = x .before .before in
+    let len = k .before .before in
+    rw (
+      c .send-on .ensures _ set,
+      counted .count-one .ensures,
+      x .next-byte .ensures .0,
+      x .before .halts .ensures,
+      k .byte2 .ensures .0,
+      len .byte .ensures .0,
+    )
+
+pub ack-sending-spec : {M : Type 1} → statement M
 ack-sending-spec =
     tie.close
     (tie.spec
@@ -18,5 +40,5 @@ ack-sending-spec =
     (λ c. λ κs. search needs)
     (λ c. λ κs. search needs)
     (λ c. λ κs. search needs)
-    (λ c. λ κs. (c .before .before .before .before .before .before .before .before .before .before .pre .0 .running, rw (← c .before .before .before .before .before .before .before .byte .ensures .0) (c .before .before .before .next-byte .ensures .1), c .before .before .before .before .before .before .before .before .before .before .pre .1))
-    (λ c. λ set. rw (c .send-on .ensures _ set, c .before .before .count-one .ensures, c .before .before .before .before .next-byte .ensures .0, c .before .before .before .before .before .halts .ensures, c .before .before .before .before .before .before .byte2 .ensures .0, c .before .before .before .before .before .before .before .before .byte .ensures .0)))
+    send-on-requires
+    returns)

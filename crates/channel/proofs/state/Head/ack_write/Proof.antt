@@ -4,6 +4,19 @@ use lib.ListN.{set}
 use Rattle.channel.proofs.state.Head.ack_write.Statement.{statement}
 use Rattle.channel.proofs.state.Head.ack_write.Tie as tie
 
+send-on-requires : tie.Need-send-on-requires
+send-on-requires c κs =
+    let x = c .before in
+    let len = x .before .before in
+    let start = len .before .before .before in
+    (start .pre .0, rw (len .byte .ensures .0) at (x .next-byte .ensures .1), start .pre .1)
+
+returns : tie.Need-returns
+returns c k set =
+    let x = c .before .before in
+    let len = x .before .before in
+    rw (c .send-on .ensures k set, x .next-byte .ensures .0, x .before .halts .ensures, len .byte .ensures .0)
+
 pub ack-write-spec : {M : Type 1} → statement M
 ack-write-spec =
     tie.close
@@ -13,5 +26,5 @@ ack-write-spec =
     (λ c. λ κs. search needs)
     (λ c. λ κs. search needs)
     (λ c. λ κs. search needs)
-    (λ c. λ κs. (c .before .before .before .before .before .before .pre .0, rw (c .before .before .before .byte .ensures .0) at (c .before .next-byte .ensures .1), c .before .before .before .before .before .before .pre .1))
-    (λ c. λ k set. rw (c .send-on .ensures k set, c .before .before .next-byte .ensures .0, c .before .before .before .halts .ensures, c .before .before .before .before .byte .ensures .0)))
+    send-on-requires
+    returns)

@@ -4,8 +4,26 @@ use borrow.Author.Needs.{needs}
 use Rattle.channel.proofs.state.Head.control.Statement.{statement}
 use Rattle.channel.proofs.state.Head.control.Tie as tie
 
-pub control-spec : {M : Type 1} → statement M
+returns : tie.Need-returns
 unfolding controlled
+returns c =
+    let h = c .before .before .before in
+    let a = h .before .before in
+    let te = a .before in
+    let over = te .before .before in
+    let place = over .before in
+    rw (
+      c .ask .ensures,
+      h .set-pointers .ensures,
+      h .before .set-modes .ensures,
+      a .ask-of .ensures,
+      te .kept-if .ensures,
+      te .before .active .ensures,
+      over .overrun .ensures,
+      place .data-place .ensures,
+    )
+
+pub control-spec : {M : Type 1} → statement M
 control-spec =
     tie.close
     (tie.spec
@@ -17,4 +35,4 @@ control-spec =
     (λ c. λ κs. search needs)
     (λ c. λ κs. search needs)
     (λ c. λ κs. search needs)
-    (λ c. rw (c .ask .ensures, c .before .before .before .set-pointers .ensures, c .before .before .before .before .set-modes .ensures, c .before .before .before .before .before .ask-of .ensures, c .before .before .before .before .before .before .kept-if .ensures, c .before .before .before .before .before .before .before .active .ensures, c .before .before .before .before .before .before .before .before .overrun .ensures, c .before .before .before .before .before .before .before .before .before .data-place .ensures)))
+    returns)

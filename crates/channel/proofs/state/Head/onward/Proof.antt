@@ -5,8 +5,22 @@ use lib.ListN.{set}
 use Rattle.channel.proofs.state.Head.onward.Statement.{statement}
 use Rattle.channel.proofs.state.Head.onward.Tie as tie
 
-pub onward-spec : {M : Type 1} → statement M
+returns : tie.Need-returns
 unfolding onward passed
+returns c k set =
+    let marked = c .before .before in
+    let m = marked .before .before in
+    let to = m .before .before .before in
+    rw (
+      c .move-to .ensures _ k set,
+      marked .mark .ensures,
+      m .next-move .ensures .0,
+      m .before .byte .ensures .0,
+      to .reach .ensures .0,
+      to .before .halts .ensures,
+    )
+
+pub onward-spec : {M : Type 1} → statement M
 onward-spec =
     tie.close
     (tie.spec
@@ -18,4 +32,4 @@ onward-spec =
     (λ c. search needs)
     (λ c. λ κs. search needs)
     (λ c. λ κs. search needs)
-    (λ c. λ k set. rw (c .move-to .ensures _ k set, c .before .before .mark .ensures, c .before .before .before .before .next-move .ensures .0, c .before .before .before .before .before .byte .ensures .0, c .before .before .before .before .before .before .before .reach .ensures .0, c .before .before .before .before .before .before .before .before .halts .ensures)))
+    returns)

@@ -7,8 +7,16 @@ use mathlib.Core.Path.{_∙_, ap}
 use Rattle.channel.proofs.state.Head.reset.Statement.{statement}
 use Rattle.channel.proofs.state.Head.reset.Tie as tie
 
-pub reset-spec : {M : Type 1} → statement M
+returns : tie.Need-returns
 unfolding zeros
+returns c =
+    let wiped = c .before .before .before .before .before .before .before .before .before in
+    let start = wiped .before .before .before in (
+      rw (c .answer .ensures, c .before .new .ensures, c .before .before .fresh-settings .ensures),
+      wiped .wipe .ensures ∙ ap (λ (n : ℕ). replicate n 0) (start .pre),
+    )
+
+pub reset-spec : {M : Type 1} → statement M
 reset-spec =
     tie.close
     (tie.spec
@@ -17,4 +25,4 @@ reset-spec =
     (λ c. λ κs. search needs)
     (λ c. λ κs. search needs)
     (λ c. search needs)
-    (λ c. (rw (c .answer .ensures, c .before .new .ensures, c .before .before .fresh-settings .ensures), c .before .before .before .before .before .before .before .before .before .wipe .ensures ∙ ap (λ (n : ℕ). replicate n 0) (c .before .before .before .before .before .before .before .before .before .before .before .before .pre))))
+    returns)

@@ -4,8 +4,21 @@ use borrow.Author.Needs.{needs}
 use Rattle.channel.proofs.state.Head.start.Statement.{statement}
 use Rattle.channel.proofs.state.Head.start.Tie as tie
 
-pub start-spec : {M : Type 1} → statement M
+returns : tie.Need-returns
 unfolding started passed
+returns c k =
+    let marked = c .before .before in
+    let m = marked .before .before in
+    let to = m .before in
+    rw (
+      c .start-by .ensures _ k,
+      marked .mark .ensures,
+      m .next-move .ensures .0,
+      to .first-sent .ensures .0,
+      to .before .byte .ensures .0,
+    )
+
+pub start-spec : {M : Type 1} → statement M
 start-spec =
     tie.close
     (tie.spec
@@ -15,4 +28,4 @@ start-spec =
     (λ c. λ κs. search needs)
     (λ c. λ κs. search needs)
     (λ c. λ κs. search needs)
-    (λ c. λ k. rw (c .start-by .ensures _ k, c .before .before .mark .ensures, c .before .before .before .before .next-move .ensures .0, c .before .before .before .before .before .first-sent .ensures .0, c .before .before .before .before .before .before .byte .ensures .0)))
+    returns)

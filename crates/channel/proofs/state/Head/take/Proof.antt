@@ -4,8 +4,23 @@ use borrow.Author.Needs.{needs}
 use Rattle.channel.proofs.state.Head.take.Statement.{statement}
 use Rattle.channel.proofs.state.Head.take.Tie as tie
 
-pub take-spec : {M : Type 1} → statement M
+returns : tie.Need-returns
 unfolding received countedOne
+returns c set =
+    let counted = c .before .before in
+    let x = counted .before .before in
+    let k = x .before .before in
+    let len = k .before .before in
+    rw (
+      c .receive-on .ensures _ set,
+      counted .count-one .ensures,
+      x .next-byte .ensures .0,
+      x .before .halts .ensures,
+      k .byte2 .ensures .0,
+      len .byte .ensures .0,
+    )
+
+pub take-spec : {M : Type 1} → statement M
 take-spec =
     tie.close
     (tie.spec
@@ -19,4 +34,4 @@ take-spec =
     (λ c. λ κs. search needs)
     (λ c. λ κs. search needs)
     (λ c. λ κs. search needs)
-    (λ c. λ set. rw (c .receive-on .ensures _ set, c .before .before .count-one .ensures, c .before .before .before .before .next-byte .ensures .0, c .before .before .before .before .before .halts .ensures, c .before .before .before .before .before .before .byte2 .ensures .0, c .before .before .before .before .before .before .before .before .byte .ensures .0)))
+    returns)

@@ -6,6 +6,24 @@ use mathlib.Core.Path.{refl}
 use Rattle.channel.proofs.state.Head.turn.Statement.{statement}
 use Rattle.channel.proofs.state.Head.turn.Tie as tie
 
+ack-address-requires : tie.Need-ack-address-requires
+ack-address-requires c κs =
+    let told = c .before .before .before in
+    let start = told .before .before .before in
+    (meets-ack-address _ _ (start .pre .0) _ (told .t .given .1), start .pre .1)
+
+ack-sending-requires : tie.Need-ack-sending-requires
+ack-sending-requires c κs =
+    let told = c .before .before .before .before in
+    let start = told .before .before .before in
+    (meets-ack-sending _ _ (start .pre .0) _ (told .t2 .given .1), start .pre .1)
+
+receive-requires : tie.Need-receive-requires
+receive-requires c κs =
+    let told = c .before .before .before .before in
+    let start = told .before .before .before in
+    (meets-receive _ _ (start .pre .0) _ _ (told .t5 .given .1), start .pre .1)
+
 pub turn-spec : {M : Type 1} → statement M
 unfolding turned turnStore frameEnded
 turn-spec =
@@ -14,15 +32,15 @@ turn-spec =
     (λ c. search needs)
     (λ c. λ κs. search needs)
     (λ c. search needs)
-    (λ c. λ κs. (meets-ack-address _ _ (c .before .before .before .before .before .before .pre .0) _ (c .before .before .before .t .given .1), c .before .before .before .before .before .before .pre .1))
+    ack-address-requires
     (λ c. search needs)
-    (λ c. λ κs. (meets-ack-sending _ _ (c .before .before .before .before .before .before .before .pre .0) _ (c .before .before .before .before .t2 .given .1), c .before .before .before .before .before .before .before .pre .1))
+    ack-sending-requires
     (λ c. search needs)
     (λ c. λ κs. meets-nack-address _ _ (c .before .before .before .before .before .pre .0) _ (c .before .before .t3 .given .1))
     (λ c. search needs)
     (λ c. λ κs. meets-nack-sending _ _ (c .before .before .before .before .before .pre .0) _ (c .before .before .t4 .given .1))
     (λ c. search needs)
-    (λ c. λ κs. (meets-receive _ _ (c .before .before .before .before .before .before .before .pre .0) _ _ (c .before .before .before .before .t5 .given .1), c .before .before .before .before .before .before .before .pre .1))
+    receive-requires
     (λ c. search needs)
     (λ c. λ κs. meets-begin _ _ (c .before .before .before .before .before .pre .0) (c .before .before .enum-told2 .given .1))
     (λ c. λ κs. search needs)

@@ -6,6 +6,11 @@ use mathlib.Core.Path.{refl}
 use Rattle.channel.proofs.state.Head.write_by.Statement.{statement}
 use Rattle.channel.proofs.state.Head.write_by.Tie as tie
 
+control-requires : tie.Need-control-requires
+control-requires c κs =
+    let start = c .before .before .before .before .before .before .before .before .before in
+    (accepted-sel _ _ (start .pre .0), accepted-count _ _ (start .pre .0))
+
 pub write-by-spec : {M : Type 1} → statement M
 unfolding writtenBy storedBy
 write-by-spec =
@@ -15,7 +20,7 @@ write-by-spec =
     (λ c. λ κs. search needs)
     (λ c. search needs)
     (λ c. λ κs. search needs)
-    (λ c. λ κs. (accepted-sel _ _ (c .before .before .before .before .before .before .before .before .before .pre .0), accepted-count _ _ (c .before .before .before .before .before .before .before .before .before .pre .0)))
+    control-requires
     (λ c. search needs)
     (λ c. λ κs. search needs)
     (λ c. search needs)

@@ -8,5 +8,4 @@ answer-spec =
     tie.close
     (tie.spec
     (λ c. λ κs. search needs)
-    (λ c. λ κs. search needs)
-    (λ c. rw (c .tell .ensures, c .before .no-acts .ensures)))
+    (λ c. rw (c .no-acts .ensures)))

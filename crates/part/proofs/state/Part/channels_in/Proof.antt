@@ -1,6 +1,7 @@
 -- `part::state::Part::channels_in` meets its contract: what is left of the channels decides.
-use Prim.Native.Nat.{_-_, _<_, _≤_}
+use Prim.Native.Nat.{ℕ, suc, _-_, _<_, _≤_}
 use Rattle.channel.specs.Range.{inRange}
+use Rattle.channel.specs.declared.state.Channel.{Channel}
 use Rattle.laws.specs.Pick.{if_then_else_}
 use Rattle.part.specs.State.{blank}
 use Rattle.part.specs.Step.{channelsIn}
@@ -9,6 +10,7 @@ use borrow.Author.Tests.{not-false, not-true}
 use lib.ListN.{drop, drop-of-length-le, getD, length, length-map}
 use lib.Seq.{drop-cons}
 use mathlib.Core.Bool.{false, true}
+use mathlib.Core.List.{List, _∷_}
 use mathlib.Core.Path.{_∙_, _≡_, ap, refl, sym}
 use native.Mathlib.Numerals.{add-one}
 use native.Mathlib.Omega.{arith}
@@ -21,8 +23,53 @@ Inv-loop channels i₀ i = (i ≤ 3) × (channelsIn channels ≡ channelsIn (dro
 abbrev μ-loop : tie.MeasureT-loop
 μ-loop channels i₀ i = 3 - i
 
-pub channels-in-spec : {M : Type 1} → statement M
+-- there are three channels
+three : (start : tie.Start Inv-loop μ-loop) → length (start .args .self .channels) ≡ 3
+three start = simp length-map at (start .good .0 .1 .1 .0 .1 .0 .1)
+
+-- what is left in a turn begins with its channel
+module _ (turn : tie.In-loop Inv-loop μ-loop) where
+  abbrev all : List Channel
+  all = turn .before .before .before .args .self .channels
+
+  abbrev i : ℕ
+  i = turn .before .loop .i
+
+  begins : channelsIn all ≡ channelsIn (getD all i blank ∷ drop (suc i) all)
+  begins =
+      let n = three (turn .before .before .before) in
+      let h : i < length all = omega arith in
+      turn .before .loop .inv .1 ∙ ap channelsIn (drop-cons all i blank h)
+
+-- it is not in range
+returns : tie.Need-returns Inv-loop μ-loop
 unfolding channelsIn if_then_else_
+returns c =
+    let asked = c .before in
+    let turn = asked .before .before in
+    let t : inRange (getD (all turn) (i turn) blank) ≡ false = sym (asked .in-range .ensures) ∙ not-true _ (c .if1 .taken) in
+    sym (begins turn ∙ rw t)
+
+-- it is: what follows decides
+loop-again : tie.Need-loop-again Inv-loop μ-loop
+unfolding channelsIn if_then_else_
+loop-again c =
+    let asked = c .before in
+    let turn = asked .before .before in
+    let t : inRange (getD (all turn) (i turn) blank) ≡ true = sym (asked .in-range .ensures) ∙ not-false _ (c .if1 .left) in
+    (omega arith, begins turn ∙ rw (t, add-one (i turn)))
+
+-- none is left
+returns-2 : tie.Need-returns-2 Inv-loop μ-loop
+unfolding channelsIn
+returns-2 c =
+    let turn = c .before in
+    let start = turn .before .before in
+    let n = three start in
+    let h : length (start .args .self .channels) ≤ turn .loop .i = omega arith in
+    sym (turn .loop .inv .1 ∙ ap channelsIn (drop-of-length-le (start .args .self .channels) h))
+
+pub channels-in-spec : {M : Type 1} → statement M
 channels-in-spec =
     tie.close
     (tie.spec
@@ -31,9 +78,9 @@ channels-in-spec =
     (λ c. (search needs, refl))
     (λ c. search needs)
     (λ c. search needs)
-    (λ c. λ κs. search needs)
-    (λ c. let l = c .before .before .before .before .before .before .args .self .channels in let three : length l ≡ 3 = simp length-map at (c .before .before .before .before .before .before .good .0 .1 .1 .0 .1 .0 .1) in let i = c .before .before .before .before .loop .i in let h : i < length l = omega arith in let t : inRange (getD l i blank) ≡ false = sym (c .before .in-range .ensures) ∙ not-true _ (c .if1 .taken) in sym (c .before .before .before .before .loop .inv .1 ∙ ap channelsIn (drop-cons l i blank h) ∙ rw t))
+    (λ c κs. search needs)
+    returns
     (λ c. search needs)
     (λ c. search needs)
-    (λ c. let l = c .before .before .before .before .before .before .args .self .channels in let three : length l ≡ 3 = simp length-map at (c .before .before .before .before .before .before .good .0 .1 .1 .0 .1 .0 .1) in let i = c .before .before .before .before .loop .i in let h : i < length l = omega arith in let t : inRange (getD l i blank) ≡ true = sym (c .before .in-range .ensures) ∙ not-false _ (c .if1 .left) in (omega arith, c .before .before .before .before .loop .inv .1 ∙ ap channelsIn (drop-cons l i blank h) ∙ rw (t, add-one i)))
-    (λ c. let l = c .before .before .before .args .self .channels in let three : length l ≡ 3 = simp length-map at (c .before .before .before .good .0 .1 .1 .0 .1 .0 .1) in let i = c .before .loop .i in let h : length l ≤ i = omega arith in sym (c .before .loop .inv .1 ∙ ap channelsIn (drop-of-length-le l h))))
+    loop-again
+    returns-2)

@@ -1,0 +1,364 @@
+-- A part that is taken apart and put together is the same part, and stays it where a channel's head and row are put anew.
+use Prim.Native.Nat.{ℕ, zero, suc, _<_}
+use mathlib.Core.Bool.{true}
+use mathlib.Core.List.{List, [], _∷_, map}
+use mathlib.Core.Path.{_≡_, refl, sym, _∙_, ap, subst}
+use native.Mathlib.Omega.{arith}
+use lib.ListN.{length, getD, set, length-map, length-set}
+use lib.Seq.{getD-set-other, getD-set-same}
+use Rattle.sequence.specs.declared.wires.Edge.{Edge}
+use Rattle.channel.specs.declared.state.Channel.{Channel}
+use Rattle.channel.specs.declared.state.Head.{Head}
+use Rattle.channel.specs.declared.state.Headed.{Headed}
+use Rattle.channel.specs.declared.state.Stepped.{Stepped}
+use Rattle.channel.specs.declared.step.Op.{Op}
+use Rattle.channel.specs.Head.{rejoined, headOf}
+use Rattle.channel.specs.Step.{servedBy, servedStore, Accepted}
+use Rattle.channel.specs.Range.{inRange}
+use Rattle.channel.specs.Wires.{triggered}
+use Rattle.part.specs.declared.rows.Common.{Common}
+use Rattle.part.specs.declared.rows.Heads.{Heads}
+use Rattle.part.specs.declared.rows.HeadsStepped.{HeadsStepped}
+use Rattle.part.specs.declared.rows.OneStepped.{OneStepped}
+use Rattle.part.specs.declared.state.Part.{Part}
+use Rattle.part.specs.declared.state.PartStepped.{PartStepped}
+use Rattle.part.specs.declared.map.Step.{Step}
+use Rattle.part.specs.declared.map.Target.{Target}
+use Rattle.part.specs.declared.map.Target.the-variants.{One, All}
+use Rattle.part.specs.declared.map.Wide.{Wide}
+use Rattle.part.specs.Map.{targetOf}
+use Rattle.part.specs.State.{blank, chan, window, putWindow}
+use Rattle.part.specs.Step.{
+  beAfter,
+  triggerStep,
+  commonAfter,
+  commonOf,
+  answerAt,
+  oneAfter,
+  oneStep,
+  oneBytes,
+  allServed,
+  allStored,
+  partServed,
+  partStored,
+  partIn,
+  partStep,
+  partBytes,
+  Whole,
+}
+use Rattle.part.specs.Laws.Kept.{chan-accepted}
+use Rattle.part.specs.Laws.Range.{chan-in-range, whole-accepts, step-accepted, bytes-accepted}
+use Rattle.part.specs.Rows.{
+  Rows,
+  Three,
+  headsOf,
+  tablesOf,
+  rowsOf,
+  Holds,
+  headAt,
+  channelIn,
+  channelOf,
+  gathered,
+  Ready,
+  Gives,
+  givenIn,
+  Tells,
+  withRow,
+  OneReady,
+  servedIn,
+  oneOf,
+  OneGives,
+  oneStored,
+  EdgeGives,
+}
+
+-- ---- lists
+map-set : {A B : Type 0} (f : A → B) (l : List A) (i : ℕ) (x : A) → set (map f l) i (f x) ≡ map f (set l i x)
+map-set f [] i x = refl
+map-set f (y ∷ l) zero x = refl
+map-set {A} {B} f (y ∷ l) (suc i) x = ap (λ (t : List B). f y ∷ t) (map-set f l i x)
+
+map-at : {A B : Type 0} (f : A → B) (l : List A) (i : ℕ) (d : A) → getD (map f l) i (f d) ≡ f (getD l i d)
+map-at f [] i d = refl
+map-at f (x ∷ l) zero d = refl
+map-at f (x ∷ l) (suc i) d = map-at f l i d
+
+pub three-of : {A : Type 0} (d : A) (l : List A) → length l ≡ 3 → (getD l 0 d ∷ getD l 1 d ∷ getD l 2 d ∷ []) ≡ l
+three-of d [] h = absurd (let k : 0 ≡ 3 = h in omega (arith, k))
+three-of d (a ∷ []) h = absurd (let k : 1 ≡ 3 = h in omega (arith, k))
+three-of d (a ∷ b ∷ []) h = absurd (let k : 2 ≡ 3 = h in omega (arith, k))
+three-of d (a ∷ b ∷ c ∷ []) h = refl
+three-of d (a ∷ b ∷ c ∷ e ∷ l) h = absurd (let k : length (a ∷ b ∷ c ∷ e ∷ l) ≡ 3 = h in omega (arith, k))
+
+-- ---- taken apart, and put together
+module _ (p : Part) where
+  at-apart : (c : ℕ) → channelOf (headsOf p) (rowsOf p) c ≡ chan p c
+  at-apart c =
+      let l = p .channels in
+      rw (
+        map-at headOf l c blank,
+        map-at (λ (x : Channel). x .slatable) l c blank,
+        map-at (λ (x : Channel). x .tranconfig) l c blank,
+        map-at (λ (x : Channel). x .status) l c blank,
+        map-at (λ (x : Channel). x .bytecount) l c blank,
+        map-at (λ (x : Channel). x .settings) l c blank,
+      )
+
+  pub gathered-apart : length (p .channels) ≡ 3 → gathered (headsOf p) (rowsOf p) ≡ p
+  gathered-apart three = rw (at-apart 0, at-apart 1, at-apart 2, three-of blank (p .channels) three)
+
+  three-rows : length (p .channels) ≡ 3 → Three (rowsOf p)
+  three-rows three =
+      record {
+        sla = length-map (p .channels) (λ (x : Channel). x .slatable) ∙ three;
+        lens = length-map (p .channels) (λ (x : Channel). x .tranconfig) ∙ three;
+        status = length-map (p .channels) (λ (x : Channel). x .status) ∙ three;
+        counts = length-map (p .channels) (λ (x : Channel). x .bytecount) ∙ three;
+        settings = length-map (p .channels) (λ (x : Channel). x .settings) ∙ three;
+      }
+
+pub apart-gathered : (h : Heads) (t : Rows) → length (h .channels) ≡ 3 → Three t → Holds (gathered h t) h t
+apart-gathered h t n w =
+    let heads = sym (three-of (headOf blank) (h .channels) n) in
+    let sla = sym (three-of [] (t .sla) (w .sla)) in
+    let lens = sym (three-of [] (t .lens) (w .lens)) in
+    let status = sym (three-of [] (t .status) (w .status)) in
+    let counts = sym (three-of [] (t .counts) (w .counts)) in
+    let settings = sym (three-of [] (t .settings) (w .settings)) in
+    record {
+      heads = λ i. record { channels = heads i; common = h .common };
+      rows = λ i. record { sla = sla i; lens = lens i; status = status i; counts = counts i; settings = settings i };
+      three = refl;
+    }
+
+module _ (p : Part) (h : Heads) (t : Rows) (w : Holds p h t) where
+  pub holds-at : (c : ℕ) → channelOf h t c ≡ chan p c
+  holds-at c = rw (w .heads, w .rows) (at-apart p c)
+
+  pub holds-part : gathered h t ≡ p
+  holds-part = rw (w .heads, w .rows) (gathered-apart p (w .three))
+
+  pub holds-rows : Three t
+  holds-rows = subst Three (sym (w .rows)) (three-rows p (w .three))
+
+  pub holds-ready : (m : List ℕ) → Whole p m → Ready h t m
+  holds-ready m v =
+      record {
+        heads = ap (λ (x : Heads). length (x .channels)) (w .heads) ∙ length-map (p .channels) headOf ∙ w .three;
+        rows = holds-rows;
+        whole = subst (λ (x : Part). Whole x m) (sym holds-part) v;
+      }
+
+  pub holds-one-ready : (m : List ℕ) → Whole p m → (c : ℕ) → c < 3 → OneReady (headAt h c) t m c
+  holds-one-ready m v c q = record { below = q; memory = v .whole; accepted = rw (holds-at c) (chan-accepted p m c q v) }
+
+-- heads and rows for which no. 9 refuses nothing hold their part
+pub ready-holds : (h : Heads) (t : Rows) (m : List ℕ) → Ready h t m → Holds (gathered h t) h t
+ready-holds h t m w = apart-gathered h t (w .heads) (w .rows)
+
+-- ---- what heads and rows give is the part's
+pub gives-step : (q : PartStepped) (r : HeadsStepped) (t : Rows) → Gives q r t → givenIn r t ≡ q
+gives-step q r t w = rw (holds-part (q .part) (r .heads) t (w .holds), w .answer)
+
+-- ---- no table is looked at
+pub tells-gives : (f : Part → PartStepped) (h : Heads) (r : HeadsStepped) (t : Rows) → length (h .channels) ≡ 3 → Three t → Tells f h r
+    → Gives (f (gathered h t)) r t
+tells-gives f h r t n v w =
+    let e = w .1 t in
+    record {
+      holds = rw (← e) (apart-gathered (r .heads) t (ap length (w .0) ∙ n) v);
+      answer = ap (λ (x : PartStepped). x .answer) e;
+    }
+
+-- ---- ONE CHANNEL ANEW: its record x, in its head and its row
+module _ (p : Part) (c : ℕ) (x : Channel) (k : Common) where
+  put-holds : length (p .channels) ≡ 3
+      → Holds (oneAfter p c x k) (record { channels = set (headsOf p .channels) c (headOf x); common = k }) (withRow (rowsOf p) c x)
+  put-holds three =
+      let l = p .channels in
+      record {
+        heads = rw (map-set headOf l c x);
+        rows =
+            rw (
+              map-set (λ (y : Channel). y .slatable) l c x,
+              map-set (λ (y : Channel). y .tranconfig) l c x,
+              map-set (λ (y : Channel). y .status) l c x,
+              map-set (λ (y : Channel). y .bytecount) l c x,
+              map-set (λ (y : Channel). y .settings) l c x,
+            );
+        three = length-set l c x ∙ three;
+      }
+
+module _ (p : Part) (h : Heads) (t : Rows) (w : Holds p h t) (m : List ℕ) (c : ℕ) (op : Op) (r : OneStepped) (t′ : Rows) (m′ : List ℕ) where
+  -- what channel c answers in heads and rows, and in the part
+  served : Stepped
+  served = servedBy (chan p c) (window c m) c op
+
+  same-served : servedIn (headAt h c) t m c op ≡ served
+  unfolding served
+  same-served = ap (λ (y : Channel). servedBy y (window c m) c op) (holds-at p h t w c)
+
+  one-bytes : OneGives (headAt h c) (h .common) t m c op r t′ m′ → m′ ≡ oneBytes p m c op
+  unfolding oneBytes
+  one-bytes d = d .memory ∙ ap (λ (y : Channel). putWindow c (servedStore y (window c m) c op) m) (holds-at p h t w c)
+
+  -- A STEP OF ONE CHANNEL in its head and its row is the part's
+  pub one-gives : OneGives (headAt h c) (h .common) t m c op r t′ m′ → Gives (oneStep p m c op) (oneStored h c r) t′ × (m′ ≡ oneBytes p m c op)
+  unfolding oneStep served
+  one-gives d =
+      let e = d .given ∙ ap (oneOf (h .common) c op) same-served in
+      let k = commonAfter (h .common) op (served .answer) in (
+        record {
+          holds =
+              rw (e, d .rows, same-served, w .heads, w .rows) (put-holds p c (served .channel) (commonAfter (commonOf p) op (served .answer)) (w .three));
+          answer = ap (λ (y : OneStepped). y .answer) e;
+        },
+        one-bytes d,
+      )
+
+-- ---- what a step over lent tables gives: the channel x is what it gave back and the tables that it left
+abbrev headedOf : Stepped → Headed
+headedOf x = record { head = headOf (x .channel); answer = x .answer }
+
+module _ (x : Stepped) (r : Headed) (a b d e f : List ℕ) (q : rejoined r a b d e f ≡ x) where
+  pub lent-gives : (k : Common) (c : ℕ) (op : Op) → record { head = r .head; common = commonAfter k op (r .answer); answer = answerAt c (r .answer) } ≡ oneOf k c op x
+  lent-gives k c op = ap (oneOf k c op) q
+
+  pub lent-headed : record { head = r .head; answer = r .answer } ≡ headedOf x
+  lent-headed = ap headedOf q
+
+  pub lent-row : (c : ℕ) (t : Rows)
+      → record { sla = set (t .sla) c a; lens = set (t .lens) c b; status = set (t .status) c d; counts = set (t .counts) c e; settings = set (t .settings) c f }
+      ≡ withRow t c (x .channel)
+  lent-row c t = ap (λ (y : Stepped). withRow t c (y .channel)) q
+
+-- ---- A STEP, by whom it concerns
+module _ (p : Part) (m : List ℕ) (w : Whole p m) (s : Step) (r : HeadsStepped) (t : Rows) (n : List ℕ) where
+  by-target : (x : Target) → targetOf s ≡ x → Gives (partServed p m x) r t × (n ≡ partStored p m x) → Gives (partStep p m s) r t × (n ≡ partBytes p m s)
+  by-target x e d = let y = whole-accepts p m w in rw (step-accepted p m s y, bytes-accepted p m s y, e) d
+
+  pub step-one : (c : ℕ) (op : Op) → targetOf s ≡ One op c → Gives (oneStep p m c op) r t × (n ≡ oneBytes p m c op)
+      → Gives (partStep p m s) r t × (n ≡ partBytes p m s)
+  unfolding partServed partStored
+  step-one c op e d = by-target (One op c) e d
+
+  pub step-all : (x : Wide) → targetOf s ≡ All x → Gives (allServed p x) r t × (n ≡ allStored p m x) → Gives (partStep p m s) r t × (n ≡ partBytes p m s)
+  unfolding partServed partStored
+  step-all x e d = by-target (All x) e d
+
+-- ---- rows put one by one
+module _ (t : Rows) (c : ℕ) (x : Channel) where
+  pub other-row : (g : Head) (j : ℕ) → (j ≡ c → ⊥) → channelIn g (withRow t c x) j ≡ channelIn g t j
+  other-row g j n =
+      rw (
+        getD-set-other (t .sla) c j (x .slatable) [] n,
+        getD-set-other (t .lens) c j (x .tranconfig) [] n,
+        getD-set-other (t .status) c j (x .status) [] n,
+        getD-set-other (t .counts) c j (x .bytecount) [] n,
+        getD-set-other (t .settings) c j (x .settings) [] n,
+      )
+
+set-three : {A : Type 0} (l : List A) (a b d : A) → length l ≡ 3 → set (set (set l 0 a) 1 b) 2 d ≡ (a ∷ b ∷ d ∷ [])
+set-three l a b d n = rw (← three-of a l n)
+
+-- all three
+pub all-rows : (t : Rows) (a b d : Channel) → Three t → withRow (withRow (withRow t 0 a) 1 b) 2 d ≡ tablesOf (a ∷ b ∷ d ∷ [])
+all-rows t a b d w =
+    rw (
+      set-three (t .sla) (a .slatable) (b .slatable) (d .slatable) (w .sla),
+      set-three (t .lens) (a .tranconfig) (b .tranconfig) (d .tranconfig) (w .lens),
+      set-three (t .status) (a .status) (b .status) (d .status) (w .status),
+      set-three (t .counts) (a .bytecount) (b .bytecount) (d .bytecount) (w .counts),
+      set-three (t .settings) (a .settings) (b .settings) (d .settings) (w .settings),
+    )
+
+-- the part's own three
+pub spread-holds : (p : Part) (h : Heads) (t t′ : Rows) → length (p .channels) ≡ 3 → Three t → h ≡ headsOf p
+    → t′ ≡ withRow (withRow (withRow t 0 (chan p 0)) 1 (chan p 1)) 2 (chan p 2) → Holds p h t′
+spread-holds p h t t′ three w e f =
+    record { heads = e; rows = f ∙ all-rows t (chan p 0) (chan p 1) (chan p 2) w ∙ ap tablesOf (three-of blank (p .channels) three); three = three }
+
+-- ---- A TRIGGER EDGE in heads and rows, channel by channel
+
+-- a channel's row is not touched by the others' edges, so each channel is still in range when its turn comes
+module _ (h : Heads) (t : Rows) (edge : Edge) (w : partIn (gathered h t) ≡ true) where
+  pub second-in-range : (a : Headed) (t₁ : Rows) → EdgeGives (headAt h 0) t 0 edge a t₁ → inRange (channelIn (headAt h 1) t₁ 1) ≡ true
+  second-in-range a t₁ x =
+      rw (x .rows, other-row t 0 (triggered (channelOf h t 0) edge .channel) (headAt h 1) 1 (λ e. omega (arith, e))) (chan-in-range (gathered h t) 1 w)
+
+  pub third-in-range : (a b : Headed) (t₁ t₂ : Rows) → EdgeGives (headAt h 0) t 0 edge a t₁ → EdgeGives (headAt h 1) t₁ 1 edge b t₂
+      → inRange (channelIn (headAt h 2) t₂ 2) ≡ true
+  third-in-range a b t₁ t₂ x y =
+      rw (
+        y .rows,
+        other-row t₁ 1 (triggered (channelIn (headAt h 1) t₁ 1) edge .channel) (headAt h 2) 2 (λ e. omega (arith, e)),
+        x .rows,
+        other-row t 0 (triggered (channelOf h t 0) edge .channel) (headAt h 2) 2 (λ e. omega (arith, e)),
+      )
+      (chan-in-range (gathered h t) 2 w)
+
+-- what is given back where the channels answered a, b and d
+abbrev pub edgesStored : Heads → Headed → Headed → Headed → HeadsStepped
+edgesStored h a b d = record {
+  heads = record {
+    channels = a .head ∷ b .head ∷ d .head ∷ [];
+    common = record {
+      be = beAfter (beAfter (beAfter (h .common .be) (a .answer .number)) (b .answer .number)) (d .answer .number);
+      mask = h .common .mask;
+      key = h .common .key;
+    };
+  };
+  answer = record {
+    number = 0;
+    value = 0;
+    actions = record { action = a .answer .action } ∷ record { action = b .answer .action } ∷ record { action = d .answer .action } ∷ [];
+  };
+}
+
+module _ (h : Heads) (t : Rows) (edge : Edge) (three : Three t) where
+  -- what channel c answers, as it stood before the edge
+  abbrev edged : ℕ → Stepped
+  edged c = triggered (channelOf h t c) edge
+
+  -- the rows after the first, the second and the third of them
+  abbrev one : Rows
+  one = withRow t 0 (edged 0 .channel)
+
+  abbrev two : Rows
+  two = withRow one 1 (edged 1 .channel)
+
+  abbrev all : Rows
+  all = withRow two 2 (edged 2 .channel)
+
+  same-second : triggered (channelIn (headAt h 1) one 1) edge ≡ edged 1
+  same-second = ap (λ (x : Channel). triggered x edge) (other-row t 0 (edged 0 .channel) (headAt h 1) 1 (λ e. omega (arith, e)))
+
+  same-third : triggered (channelIn (headAt h 2) two 2) edge ≡ edged 2
+  same-third =
+      ap (λ (x : Channel). triggered x edge)
+      (other-row one 1 (edged 1 .channel) (headAt h 2) 2 (λ e. omega (arith, e))
+      ∙ other-row t 0 (edged 0 .channel) (headAt h 2) 2 (λ e. omega (arith, e)))
+
+  edges-all : Gives (triggerStep (gathered h t) edge) (edgesStored h (headedOf (edged 0)) (headedOf (edged 1)) (headedOf (edged 2))) all
+  unfolding triggerStep
+  edges-all =
+      record {
+        holds =
+            record {
+              heads = refl;
+              rows = all-rows t (edged 0 .channel) (edged 1 .channel) (edged 2 .channel) three;
+              three = refl;
+            };
+        answer = refl;
+      }
+
+  pub edges-give : (a b d : Headed) (t₁ t₂ t₃ : Rows) → EdgeGives (headAt h 0) t 0 edge a t₁ → EdgeGives (headAt h 1) t₁ 1 edge b t₂
+      → EdgeGives (headAt h 2) t₂ 2 edge d t₃ → Gives (triggerStep (gathered h t) edge) (edgesStored h a b d) t₃
+  edges-give a b d t₁ t₂ t₃ x y z =
+      let second = ap (λ (u : Rows). triggered (channelIn (headAt h 1) u 1) edge) (x .rows) ∙ same-second in
+      let rows = y .rows ∙ ap (λ (u : Rows). withRow u 1 (triggered (channelIn (headAt h 1) t₁ 1) edge .channel)) (x .rows)
+      ∙ ap (λ (u : Stepped). withRow one 1 (u .channel)) second in
+      let third = ap (λ (u : Rows). triggered (channelIn (headAt h 2) u 2) edge) rows ∙ same-third in
+      let last = z .rows ∙ ap (λ (u : Rows). withRow u 2 (triggered (channelIn (headAt h 2) t₂ 2) edge .channel)) rows
+      ∙ ap (λ (u : Stepped). withRow two 2 (u .channel)) third in
+      rw (x .given, y .given ∙ ap headedOf second, z .given ∙ ap headedOf third, last) edges-all

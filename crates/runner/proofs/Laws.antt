@@ -1,2 +1,0 @@
--- Laws for the proofs of functions.
-pub mod Turn

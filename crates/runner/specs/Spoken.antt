@@ -1,0 +1,29 @@
+-- DEMAND 3, of script lines: any mix of three channels' lines, against list 0, then 1, then 2; and so any lines of channels, in any order. `Independent` says it
+-- of the state, of INT at the end, and of each line's answer. Numbers of steps and INT after a single line depend on the order.
+use Prim.Native.Nat.{ℕ}
+use mathlib.Core.List.{List, [], _∷_}
+use mathlib.Core.Path.{_≡_, refl}
+use Rattle.mixes.specs.Mix.{Mix, All, OfSome, stepsOf, ends}
+use Rattle.independent.specs.Statement.{State, Accepted, Independent}
+use Rattle.independent.specs.Laws.Mixed.{mixed, any-order}
+use Rattle.runner.specs.Run.{theScript}
+use Rattle.runner.specs.Text.{Desk, afterAll, afterOne}
+use Rattle.runner.specs.Laws.Run.{script-apart}
+
+-- a line of channel c, for c below 3: it can be read, and its step is channel c's
+abbrev pub LineOf : ℕ → List ℕ → Type 0
+LineOf c l = theScript .owner l ≡ c
+
+pub mixed-lines : (s : State) → Accepted s → (k l n m : List (List ℕ)) → Mix (List ℕ) k l n m
+    → All (LineOf 0) k → All (LineOf 1) l → All (LineOf 2) n → Independent theScript s k l n m
+mixed-lines = mixed theScript script-apart LineOf (λ c l h e. e)
+
+pub lines-in-any-order : (s : State) → Accepted s → (m : List (List ℕ)) → All (OfSome theScript) m
+    → Independent theScript s (stepsOf theScript 0 m) (stepsOf theScript 1 m) (stepsOf theScript 2 m) m
+lines-in-any-order = any-order theScript script-apart
+
+-- the script's text goes by this run: its answers by definition (`replyTo`), its states so
+pub same-run : (d : Desk) (m : List (List ℕ)) → afterAll d m .state ≡ ends theScript (d .state) m
+unfolding afterAll afterOne
+same-run d [] = refl
+same-run d (l ∷ m) = same-run (afterOne d l) m

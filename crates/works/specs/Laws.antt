@@ -1,0 +1,3 @@
+-- Laws of works. Nothing here needs to be believed: it is proved.
+pub mod Work
+pub mod Op
