@@ -1,9 +1,8 @@
 -- What a part in range says of each of its channels, and a step by whether it is refused by no. 9.
-use Prim.Native.Nat.{ℕ, zero, suc, _<_}
+use Prim.Native.Nat.{ℕ, zero, suc}
 use mathlib.Core.Bool.{true, false}
 use mathlib.Core.List.{List, [], _∷_}
 use mathlib.Core.Path.{_≡_, refl}
-use native.Mathlib.Nat.{not-suc-le-zero, le-of-suc-le-suc}
 use borrow.Author.Tests.{eqb-true, eq-eqb}
 use lib.ListN.{length, getD}
 use Rattle.laws.specs.Pick.{if_then_else_}
@@ -16,12 +15,6 @@ use Rattle.part.specs.declared.state.Part.{Part}
 use Rattle.part.specs.State.{blank, chan, refusedPart}
 use Rattle.part.specs.Map.{targetOf}
 use Rattle.part.specs.Step.{channelsIn, partIn, accepts, partServed, partStored, partStep, partBytes, Whole}
-
-pub each-in : (l : List Channel) (c : ℕ) → channelsIn l ≡ true → c < length l → inRange (getD l c blank) ≡ true
-unfolding channelsIn
-each-in [] c e h = absurd (not-suc-le-zero h)
-each-in (x ∷ l) zero e h = both _ _ e .0
-each-in (x ∷ l) (suc c) e h = each-in l c (both _ _ e .1) (le-of-suc-le-suc h)
 
 pub channels-of : (p : Part) → partIn p ≡ true → channelsIn (p .channels) ≡ true
 unfolding partIn
