@@ -6,7 +6,7 @@ use mathlib.Core.Path.{_≡_}
 use lib.Dec.{ltb}
 use lib.ListN.{length, take}
 use Rattle.part.specs.State.{wiped}
-use Rattle.part.specs.Step.{Whole}
+use Rattle.part.specs.Facts.{Whole}
 use Rattle.script.specs.Answer.{header}
 use Rattle.runner.specs.declared.lines.Start.{Start}
 use Rattle.runner.specs.Lines.{firstLf, keptOf, keptBytes}

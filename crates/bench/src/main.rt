@@ -10,6 +10,7 @@ use libc::STDERR_FILENO;
 use libc::STDIN_FILENO;
 use libc::STDOUT_FILENO;
 use part::Part;
+use rules::MEMORY;
 use runner::Course;
 use runner::Start;
 use script::ANSWER_ROOM;
@@ -211,7 +212,7 @@ fn output() -> [u8; OUTPUT]
 fn main() {
     let mut block = input();
     let mut out = output();
-    let mut mem = [0u8; 13056];
+    let mut mem = [0u8; MEMORY];
     let first = begin(&mut out);
     let mut seat = first.seat;
     let mut how = first.how;

@@ -12,153 +12,171 @@ use Rattle.rules.specs.declared.registers.Register.the-variants.{Status, Contro
 use Rattle.sequence.specs.declared.wires.Ask.{Ask}
 use Rattle.sequence.specs.declared.wires.Ask.the-variants.{Nothing, Overrun, Begin, Wait, Sto, Seq, Leave}
 use Rattle.sequence.specs.declared.wires.Ending.the-variants.{Sd}
+use Rattle.rules.specs.Numbers.{done, readOnly, pastBuffer}
 use Rattle.rules.specs.Registers.{activeOf, commandOf, controlValue, chstatusValue, maskKept}
 use Rattle.rules.specs.Tables.{startOf}
-use Rattle.rules.specs.Access.{busyRefusal, pastRefusal, placeRefusal, slaRefusal, confRefusal, dataRefusal, selRefusal, keptIf, rewound, pointedAt, overrunOf, presetOf, keyAfter, resetsOf}
+use Rattle.rules.specs.Access.{busyRefusal, pastRefusal, placeRefusal, slaRefusal, confRefusal, spotOf, spotRefusal, dataRefusal, selRefusal}
+use Rattle.rules.specs.Access.{keptIf, rewound, pointedAt, overrunOf, presetOf, keyAfter, resetsOf}
 use Rattle.sequence.specs.Wires.{askOf}
-use Rattle.sequence.specs.Walk.{waiting, stoRecorded, seqRecorded, noFlags}
+use Rattle.sequence.specs.Walk.{noFlags}
+use Rattle.channel.specs.declared.state.Settings.{Settings}
+use Rattle.channel.specs.declared.state.Head.{Head}
 use Rattle.channel.specs.declared.state.Channel.{Channel}
 use Rattle.channel.specs.declared.state.Stepped.{Stepped}
-use Rattle.channel.specs.State.{fresh, zeros, plain, refused, replied, guarded, withSla, withConf, withSettings, withFlags, withPtrs, withWalk, withKey}
-use Rattle.channel.specs.State.{slaAt, confAt, dataAt, countAt, maskSet, placeSet, modeSet}
-use Rattle.channel.specs.Wires.{begun, endedBy}
+use Rattle.channel.specs.State.{Served, fresh, freshHead, zeros, on, plain, refused, replied, keeping, guarded, withHead, withSla, withConf, withSettings, withFlags, withPtrs, withKey}
+use Rattle.channel.specs.Head.{endedBy, waits, stoTaken, seqTaken, slaNext, confNext, dataTo, dataNext, countNext, maskTo, placeTo, modeTo}
+use Rattle.channel.specs.Wires.{begun}
+
+-- ---- settings 0 to 5: FRAMECNT, REFRATE, SCLL, SCLH, MODE and TIMEOUT
+unfoldable pub settingOf : Settings → ℕ → ℕ
+settingOf s n =
+    if eqb n 0 then s .framecnt else
+    (if eqb n 1 then s .refrate else
+    (if eqb n 2 then s .scll else
+    (if eqb n 3 then s .sclh else
+    (if eqb n 4 then s .mode else s .timeout))))
+
+-- v in the place of one of them
+abbrev pub eitherAt : ℕ → ℕ → ℕ → ℕ → ℕ
+eitherAt n k v old = if eqb n k then v else old
+
+unfoldable pub settingSet : Settings → ℕ → ℕ → Settings
+settingSet s n v = record {
+  framecnt = eitherAt n 0 v (s .framecnt);
+  refrate = eitherAt n 1 v (s .refrate);
+  scll = eitherAt n 2 v (s .scll);
+  sclh = eitherAt n 3 v (s .sclh);
+  mode = eitherAt n 4 v (s .mode);
+  timeout = eitherAt n 5 v (s .timeout);
+}
 
 -- ---- reads
 
 -- no. 4 past SLATABLE's, TRANCONFIG's or BYTECOUNT's last entry; no. 5 for DATA at 4,352
 unfoldable pub readRefusal : Ptrs → Register → ℕ
-readRefusal p (Status n) = 0
-readRefusal p Control = 0
-readRefusal p Chstatus = 0
-readRefusal p Intmsk = 0
+readRefusal p (Status n) = done
+readRefusal p Control = done
+readRefusal p Chstatus = done
+readRefusal p Intmsk = done
 readRefusal p Slatable = pastRefusal 63 (p .sla)
 readRefusal p Tranconfig = pastRefusal 64 (p .conf)
-readRefusal p Data = placeRefusal (p .buf)
-readRefusal p Transel = 0
-readRefusal p Tranofs = 0
+readRefusal p Data = spotRefusal (spotOf (p .buf))
+readRefusal p Transel = done
+readRefusal p Tranofs = done
 readRefusal p Bytecount = pastRefusal 63 (p .count)
-readRefusal p (Setting n) = 0
-readRefusal p Preset = 0
+readRefusal p (Setting n) = done
+readRefusal p Preset = done
 
 -- CONTROL: recorded STOSEQ, STA (active), recorded STO, TP, TE
-abbrev pub controlOf : Channel → ℕ
-controlOf c = controlValue (c .walk .seq) (activeOf (c .walk .phase)) (c .walk .sto) (c .regs .tp) (c .regs .te)
+abbrev pub controlOf : Head → ℕ
+controlOf h = controlValue (h .walk .seq) (activeOf (h .walk .phase)) (h .walk .sto) (h .regs .tp) (h .regs .te)
 
 -- a table access moves that table's pointer by one; reading CHSTATUS clears it; PRESET reads 00h
 unfoldable pub readBy : Channel → List ℕ → Register → Stepped
-readBy c m (Status n) = replied c (getD (c .status) n 0)
-readBy c m Control = replied c (controlOf c)
-readBy c m Chstatus = replied (withFlags c noFlags) (chstatusValue (c .flags))
-readBy c m Intmsk = replied c (c .regs .intmsk)
-readBy c m Slatable = replied (slaAt c (c .ptrs .sla + 1)) (getD (c .slatable) (c .ptrs .sla) 0)
-readBy c m Tranconfig = replied (confAt c (c .ptrs .conf + 1)) (getD (c .tranconfig) (c .ptrs .conf) 0)
-readBy c m Data = replied (dataAt c (c .ptrs .buf + 1)) (getD m (c .ptrs .buf) 0)
-readBy c m Transel = replied c (c .regs .transel)
-readBy c m Tranofs = replied c (c .regs .tranofs)
-readBy c m Bytecount = replied (countAt c (c .ptrs .count + 1)) (getD (c .bytecount) (c .ptrs .count) 0)
-readBy c m (Setting n) = replied c (getD (c .settings) n 0)
-readBy c m Preset = plain c
+readBy c m (Status n) = on c (replied (c .head) (getD (c .status) n 0))
+readBy c m Control = on c (replied (c .head) (controlOf (c .head)))
+readBy c m Chstatus = on c (replied (withFlags (c .head) noFlags) (chstatusValue (c .head .flags)))
+readBy c m Intmsk = on c (replied (c .head) (c .head .regs .intmsk))
+readBy c m Slatable = on c (replied (slaNext (c .head)) (getD (c .slatable) (c .head .ptrs .sla) 0))
+readBy c m Tranconfig = on c (replied (confNext (c .head)) (getD (c .tranconfig) (c .head .ptrs .conf) 0))
+readBy c m Data = on c (replied (dataNext (c .head)) (getD m (c .head .ptrs .buf) 0))
+readBy c m Transel = on c (replied (c .head) (c .head .regs .transel))
+readBy c m Tranofs = on c (replied (c .head) (c .head .regs .tranofs))
+readBy c m Bytecount = on c (replied (countNext (c .head)) (getD (c .bytecount) (c .head .ptrs .count) 0))
+readBy c m (Setting n) = on c (replied (c .head) (settingOf (c .head .settings) n))
+readBy c m Preset = on c (plain (c .head))
 
-unfoldable pub readOf : Channel → List ℕ → Register → Stepped
-readOf c m reg = guarded (readRefusal (c .ptrs) reg) c (readBy c m reg)
+unfoldable pub readOf : Channel → List ℕ → Register → Served
+readOf c m reg = guarded (readRefusal (c .head .ptrs) reg) c m (keeping m (readBy c m reg))
 
 -- ---- a write to CONTROL
 
 -- start plus TRANOFS
-abbrev pub dataPlace : Channel → ℕ
-dataPlace c = startOf (c .tranconfig) (c .regs .transel) + c .regs .tranofs
+abbrev pub dataPlace : Head → List ℕ → ℕ
+dataPlace h lens = startOf lens (h .regs .transel) + h .regs .tranofs
 
 -- TE after the write: Idle only
-abbrev pub teAfter : Channel → Command → Bool
-teAfter c k = keptIf (activeOf (c .walk .phase)) (c .regs .te) (k .te)
+abbrev pub teAfter : Head → Command → Bool
+teAfter h k = keptIf (activeOf (h .walk .phase)) (h .regs .te) (k .te)
 
 -- TP and TE (Idle only)
-abbrev pub moded : Channel → Command → Channel
-moded c k = modeSet c (keptIf (activeOf (c .walk .phase)) (c .regs .tp) (k .tp)) (teAfter c k)
+abbrev pub moded : Head → Command → Head
+moded h k = modeTo h (keptIf (activeOf (h .walk .phase)) (h .regs .tp) (k .tp)) (teAfter h k)
 
--- AIPTRRST zeroes the two table pointers and points DATA at start plus TRANOFS; BPTRRST zeroes BYTECOUNT's
-abbrev pub pointed : Channel → Command → Channel
-pointed c k =
-    withPtrs c (record {
-      sla = rewound (k .aiptrrst) (c .ptrs .sla);
-      conf = rewound (k .aiptrrst) (c .ptrs .conf);
-      buf = pointedAt (k .aiptrrst) (dataPlace c) (c .ptrs .buf);
-      count = rewound (k .bptrrst) (c .ptrs .count);
+-- AIPTRRST zeroes the two table pointers and points DATA at its place; BPTRRST zeroes BYTECOUNT's
+abbrev pub pointed : Head → Command → ℕ → Head
+pointed h k place =
+    withPtrs h (record {
+      sla = rewound (k .aiptrrst) (h .ptrs .sla);
+      conf = rewound (k .aiptrrst) (h .ptrs .conf);
+      buf = pointedAt (k .aiptrrst) place (h .ptrs .buf);
+      count = rewound (k .bptrrst) (h .ptrs .count);
     })
 
 -- a frame or Waiting begins, a stop is recorded, or Waiting is left with SD and FLD
 unfoldable pub asked : Channel → Ask → Stepped
-asked c Nothing = plain c
-asked c Overrun = refused c 5
+asked c Nothing = on c (plain (c .head))
+asked c Overrun = on c (refused (c .head) pastBuffer)
 asked c Begin = begun c
-asked c Wait = plain (withWalk c (waiting 0))
-asked c Sto = plain (withWalk c (stoRecorded (c .walk)))
-asked c Seq = plain (withWalk c (seqRecorded (c .walk)))
-asked c Leave = plain (endedBy c Sd)
+asked c Wait = on c (plain (waits (c .head)))
+asked c Sto = on c (plain (stoTaken (c .head)))
+asked c Seq = on c (plain (seqTaken (c .head)))
+asked c Leave = on c (plain (endedBy (c .head) Sd))
 
 -- CONTROL writes apply TP and TE, pointer resets, then the rest
 unfoldable pub controlled : Channel → Command → Stepped
 controlled c k =
-    asked (pointed (moded c k) k)
-    (askOf (c .walk .phase) k (teAfter c k) (overrunOf (k .aiptrrst) (dataPlace c)))
+    let h = c .head in
+    let place = dataPlace h (c .tranconfig) in
+    asked (withHead c (pointed (moded h k) k place)) (askOf (h .walk .phase) k (teAfter h k) (overrunOf (k .aiptrrst) place))
 
 -- ---- writes
 
 -- checked in the order 2, 3, 4, 6, 5; CONTROL's no. 5 is in its own rule
-unfoldable pub refusalOf : Channel → Register → ℕ → ℕ
-refusalOf c (Status n) v = 2
-refusalOf c Control v = 0
-refusalOf c Chstatus v = 2
-refusalOf c Intmsk v = 0
-refusalOf c Slatable v = slaRefusal (c .walk .phase) (c .ptrs .sla)
-refusalOf c Tranconfig v = confRefusal (c .walk .phase) (c .ptrs .conf) v
-refusalOf c Data v = dataRefusal (c .walk .phase) (c .ptrs .buf)
-refusalOf c Transel v = selRefusal (c .tranconfig) v
-refusalOf c Tranofs v = placeRefusal (startOf (c .tranconfig) (c .regs .transel) + v)
-refusalOf c Bytecount v = 2
-refusalOf c (Setting n) v = busyRefusal (c .walk .phase)
-refusalOf c Preset v = 0
+unfoldable pub refusalOf : Head → List ℕ → Register → ℕ → ℕ
+refusalOf h lens (Status n) v = readOnly
+refusalOf h lens Control v = done
+refusalOf h lens Chstatus v = readOnly
+refusalOf h lens Intmsk v = done
+refusalOf h lens Slatable v = slaRefusal (h .walk .phase) (h .ptrs .sla)
+refusalOf h lens Tranconfig v = confRefusal (h .walk .phase) (h .ptrs .conf) v
+refusalOf h lens Data v = dataRefusal (h .walk .phase) (spotOf (h .ptrs .buf))
+refusalOf h lens Transel v = selRefusal lens v
+refusalOf h lens Tranofs v = placeRefusal (startOf lens (h .regs .transel) + v)
+refusalOf h lens Bytecount v = readOnly
+refusalOf h lens (Setting n) v = busyRefusal (h .walk .phase)
+refusalOf h lens Preset v = done
 
 -- TRANSEL v stores it, zeroes TRANOFS and points at the start; TRANOFS o points at start plus o
-unfoldable pub writtenBy : Channel → Register → ℕ → Stepped
-writtenBy c (Status n) v = plain c
-writtenBy c Control v = controlled c (commandOf v)
-writtenBy c Chstatus v = plain c
-writtenBy c Intmsk v = plain (maskSet c (maskKept v))
-writtenBy c Slatable v = plain (slaAt (withSla c (set (c .slatable) (c .ptrs .sla) v)) (c .ptrs .sla + 1))
-writtenBy c Tranconfig v = plain (confAt (withConf c (set (c .tranconfig) (c .ptrs .conf) v)) (c .ptrs .conf + 1))
-writtenBy c Data v = plain (dataAt c (c .ptrs .buf + 1))
-writtenBy c Transel v = plain (dataAt (placeSet c v 0) (startOf (c .tranconfig) v))
-writtenBy c Tranofs v = plain (dataAt (placeSet c (c .regs .transel) v) (startOf (c .tranconfig) (c .regs .transel) + v))
-writtenBy c Bytecount v = plain c
-writtenBy c (Setting n) v = plain (withSettings c (set (c .settings) n v))
-writtenBy c Preset v = plain c
+abbrev pub selected : Head → List ℕ → ℕ → Head
+selected h lens v = dataTo (placeTo h v 0) (startOf lens v)
 
--- DATA stores the byte at its pointer
-unfoldable pub storedBy : Channel → List ℕ → Register → ℕ → List ℕ
-storedBy c m (Status n) v = m
-storedBy c m Control v = m
-storedBy c m Chstatus v = m
-storedBy c m Intmsk v = m
-storedBy c m Slatable v = m
-storedBy c m Tranconfig v = m
-storedBy c m Data v = set m (c .ptrs .buf) v
-storedBy c m Transel v = m
-storedBy c m Tranofs v = m
-storedBy c m Bytecount v = m
-storedBy c m (Setting n) v = m
-storedBy c m Preset v = m
+abbrev pub offset : Head → List ℕ → ℕ → Head
+offset h lens v = dataTo (placeTo h (h .regs .transel) v) (startOf lens (h .regs .transel) + v)
 
-unfoldable pub writeOf : Channel → Register → ℕ → Stepped
-writeOf c reg v = guarded (refusalOf c reg v) c (writtenBy c reg v)
+-- a table access moves that table's pointer by one; DATA stores the byte at its pointer
+unfoldable pub writtenBy : Channel → List ℕ → Register → ℕ → Served
+writtenBy c m (Status n) v = keeping m (on c (plain (c .head)))
+writtenBy c m Control v = keeping m (controlled c (commandOf v))
+writtenBy c m Chstatus v = keeping m (on c (plain (c .head)))
+writtenBy c m Intmsk v = keeping m (on c (plain (maskTo (c .head) (maskKept v))))
+writtenBy c m Slatable v = keeping m (on (withSla c (set (c .slatable) (c .head .ptrs .sla) v)) (plain (slaNext (c .head))))
+writtenBy c m Tranconfig v = keeping m (on (withConf c (set (c .tranconfig) (c .head .ptrs .conf) v)) (plain (confNext (c .head))))
+writtenBy c m Data v = keeping (set m (c .head .ptrs .buf) v) (on c (plain (dataNext (c .head))))
+writtenBy c m Transel v = keeping m (on c (plain (selected (c .head) (c .tranconfig) v)))
+writtenBy c m Tranofs v = keeping m (on c (plain (offset (c .head) (c .tranconfig) v)))
+writtenBy c m Bytecount v = keeping m (on c (plain (c .head)))
+writtenBy c m (Setting n) v = keeping m (on c (plain (withSettings (c .head) (settingSet (c .head .settings) n v))))
+writtenBy c m Preset v = keeping m (on c (plain (c .head)))
 
-unfoldable pub writeStore : Channel → List ℕ → Register → ℕ → List ℕ
-writeStore c m reg v = if eqb (refusalOf c reg v) 0 then storedBy c m reg v else m
+unfoldable pub writeOf : Channel → List ℕ → Register → ℕ → Served
+writeOf c m reg v = guarded (refusalOf (c .head) (c .tranconfig) reg v) c m (writtenBy c m reg v)
 
--- ---- the key: A5h and then 5Ah at PRESET reset the channel and its 4,352 bytes; every other write, refused or not, goes on without the key
+-- ---- the key: A5h at PRESET is kept, and then 5Ah resets the channel and its 4,352 bytes; any other write at its addresses, refused or not, forgets the A5h
 
-unfoldable pub putOf : Channel → Register → ℕ → Stepped
-putOf c reg v = if resetsOf (presetOf reg) v (c .key) then plain fresh else writeOf (withKey c (keyAfter (presetOf reg) v)) reg v
+abbrev pub keyed : Channel → Register → ℕ → Channel
+keyed c reg v = withHead c (withKey (c .head) (keyAfter (presetOf reg) v))
 
-unfoldable pub putStore : Channel → List ℕ → Register → ℕ → List ℕ
-putStore c m reg v = if resetsOf (presetOf reg) v (c .key) then zeros else writeStore (withKey c (keyAfter (presetOf reg) v)) m reg v
+unfoldable pub putOf : Channel → List ℕ → Register → ℕ → Served
+putOf c m reg v =
+    if resetsOf (presetOf reg) v (c .head .key) then keeping zeros (on fresh (plain freshHead)) else writeOf (keyed c reg v) m reg v

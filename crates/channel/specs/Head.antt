@@ -1,124 +1,107 @@
--- A channel taken apart: its tables, which are lent, and its head, which is all else; and what a rule makes of the two.
-use Prim.Native.Nat.{ℕ}
+-- The rules that need no table: what each makes of a channel's head.
+use Prim.Native.Nat.{ℕ, _+_}
 use mathlib.Core.Bool.{Bool}
-use mathlib.Core.List.{List}
-use mathlib.Core.Path.{_≡_}
 use Rattle.rules.specs.declared.state.Phase.{Phase}
-use Rattle.rules.specs.declared.state.Regs.{Regs}
-use Rattle.rules.specs.declared.state.Flags.{Flags}
-use Rattle.rules.specs.declared.state.Ptrs.{Ptrs}
-use Rattle.rules.specs.declared.state.Walk.{Walk}
+use Rattle.rules.specs.declared.state.Phase.the-variants.{Stopping, Receiving}
 use Rattle.sequence.specs.declared.wires.Action.{Action}
+use Rattle.sequence.specs.declared.wires.Action.the-variants.{C, P}
 use Rattle.sequence.specs.declared.wires.Ending.{Ending}
-use Rattle.sequence.specs.Walk.{toPhase, endFlags, endWalk}
-use Rattle.channel.specs.declared.state.Channel.{Channel}
-use Rattle.channel.specs.declared.state.Stepped.{Stepped}
+use Rattle.sequence.specs.declared.wires.Fault.{Fault}
+use Rattle.rules.specs.Registers.{bitOf}
+use Rattle.sequence.specs.Wires.{haltedOf, restOf, endingOf}
+use Rattle.sequence.specs.Walk.{idle, waiting, toPhase, stoRecorded, seqRecorded, errorNoted, nackFlags, faultFlags, lateFlags, lateWalk, endFlags, endWalk}
 use Rattle.channel.specs.declared.state.Head.{Head}
 use Rattle.channel.specs.declared.state.Headed.{Headed}
-use Rattle.channel.specs.State.{fresh, slaPtr, confPtr, dataPtr, countPtr, maskRegs, placeRegs, modeRegs}
+use Rattle.channel.specs.State.{withRegs, withFlags, withPtrs, withWalk, withState, acted}
 
--- all of a channel but its tables
-abbrev pub headOf : Channel → Head
-headOf c = record { regs = c .regs; flags = c .flags; ptrs = c .ptrs; walk = c .walk; key = c .key }
+-- ---- words
 
--- the head as a reset leaves it
-abbrev pub freshHead : Head
-freshHead = headOf fresh
+-- FRAMECNT
+abbrev pub framecntOf : Head → ℕ
+framecntOf h = h .settings .framecnt
 
--- ---- put together: SLATABLE, TRANCONFIG, STATUS, BYTECOUNT and the settings, in this order
+-- FE or STO recorded
+abbrev pub haltOf : Head → Bool
+haltOf h = haltedOf (h .walk .fe) (h .walk .sto)
 
--- a channel from its head and its tables
-abbrev pub joined : Head → List ℕ → List ℕ → List ℕ → List ℕ → List ℕ → Channel
-joined h sla lens s k set = record { slatable = sla; tranconfig = lens; status = s; bytecount = k; settings = set; regs = h .regs; flags = h .flags; ptrs = h .ptrs; walk = h .walk; key = h .key }
+abbrev pub femskOf : Head → Bool
+femskOf h = bitOf (h .regs .intmsk) 0x01
 
--- what a step gives, from what it gives back and the tables that it leaves
-abbrev pub rejoined : Headed → List ℕ → List ℕ → List ℕ → List ℕ → List ℕ → Stepped
-rejoined r sla lens s k set = record { channel = joined (r .head) sla lens s k set; answer = r .answer }
-
--- ---- what a rule f, which speaks of the whole channel, makes of a head h and its tables: r, and the tables that are changed
-
--- all tables may be changed
-abbrev pub Writes : (Channel → Stepped) → Head → List ℕ → List ℕ → List ℕ → List ℕ → List ℕ → Headed → List ℕ → List ℕ → List ℕ → List ℕ → List ℕ → Type 0
-Writes f h sla lens s k set r sla′ lens′ s′ k′ set′ = rejoined r sla′ lens′ s′ k′ set′ ≡ f (joined h sla lens s k set)
-
--- none is changed
-abbrev pub Reads : (Channel → Stepped) → Head → List ℕ → List ℕ → List ℕ → List ℕ → List ℕ → Headed → Type 0
-Reads f h sla lens s k set r = Writes f h sla lens s k set r sla lens s k set
-
--- statuses and counts
-abbrev pub Turns : (Channel → Stepped) → Head → List ℕ → List ℕ → List ℕ → List ℕ → List ℕ → Headed → List ℕ → List ℕ → Type 0
-Turns f h sla lens s k set r s′ k′ = Writes f h sla lens s k set r sla lens s′ k′ set
-
--- statuses and counts, whatever the settings
-abbrev pub Counts : (Channel → Stepped) → Head → List ℕ → List ℕ → List ℕ → List ℕ → Headed → List ℕ → List ℕ → Type 0
-Counts f h sla lens s k r s′ k′ = (set : List ℕ) → Turns f h sla lens s k set r s′ k′
-
--- statuses, whatever the counts
-abbrev pub Starts : (Channel → Stepped) → Head → List ℕ → List ℕ → List ℕ → List ℕ → Headed → List ℕ → Type 0
-Starts f h sla lens s set r s′ = (k : List ℕ) → Turns f h sla lens s k set r s′ k
-
--- statuses, whatever the lengths and counts
-abbrev pub Begins : (Channel → Stepped) → Head → List ℕ → List ℕ → List ℕ → Headed → List ℕ → Type 0
-Begins f h sla s set r s′ = (lens : List ℕ) → Starts f h sla lens s set r s′
-
--- statuses, whatever the counts and settings
-abbrev pub Walks : (Channel → Stepped) → Head → List ℕ → List ℕ → List ℕ → Headed → List ℕ → Type 0
-Walks f h sla lens s r s′ = (k set : List ℕ) → Turns f h sla lens s k set r s′ k
-
--- statuses, whatever the lengths, counts and settings
-abbrev pub Sends : (Channel → Stepped) → Head → List ℕ → List ℕ → Headed → List ℕ → Type 0
-Sends f h sla s r s′ = (lens k set : List ℕ) → Turns f h sla lens s k set r s′ k
-
--- a number, whatever the tables but the lengths
-abbrev pub Numbers : (Channel → ℕ) → Head → List ℕ → ℕ → Type 0
-Numbers f h lens r = (sla s k set : List ℕ) → r ≡ f (joined h sla lens s k set)
-
--- ---- a head with one part replaced, and with an answer
-abbrev pub headRegs : Head → Regs → Head
-headRegs h g = record { regs = g; flags = h .flags; ptrs = h .ptrs; walk = h .walk; key = h .key }
-
-abbrev pub headFlags : Head → Flags → Head
-headFlags h f = record { regs = h .regs; flags = f; ptrs = h .ptrs; walk = h .walk; key = h .key }
-
-abbrev pub headPtrs : Head → Ptrs → Head
-headPtrs h p = record { regs = h .regs; flags = h .flags; ptrs = p; walk = h .walk; key = h .key }
-
-abbrev pub headWalk : Head → Walk → Head
-headWalk h w = record { regs = h .regs; flags = h .flags; ptrs = h .ptrs; walk = w; key = h .key }
-
-abbrev pub headKey : Head → Bool → Head
-headKey h b = record { regs = h .regs; flags = h .flags; ptrs = h .ptrs; walk = h .walk; key = b }
-
-abbrev pub told : Head → ℕ → ℕ → Action → Headed
-told h n v a = record { head = h; answer = record { number = n; value = v; action = a } }
-
--- in this phase
+-- ---- the walk: its phase, or a new one
 abbrev pub inPhase : Head → Phase → Head
-inPhase h p = headWalk h (toPhase (h .walk) p)
+inPhase h p = withWalk h (toPhase (h .walk) p)
 
--- a frame of this FRAMECNT has ended so
-abbrev pub endedSo : Head → ℕ → Ending → Head
-endedSo h framecnt e = headWalk (headFlags h (endFlags (h .flags) (h .regs .te) framecnt e)) (endWalk e)
+abbrev pub idled : Head → Head
+idled h = withWalk h idle
 
--- ---- one pointer replaced
-abbrev pub slaTo : Head → ℕ → Head
-slaTo h n = headPtrs h (slaPtr (h .ptrs) n)
+-- ---- STOP: after the last, or cut short
+unfoldable pub stopped : Head → Action → Headed
+stopped h a = acted (inPhase h Stopping) a
 
-abbrev pub confTo : Head → ℕ → Head
-confTo h n = headPtrs h (confPtr (h .ptrs) n)
+-- ---- a read always answers C
+unfoldable pub clocked : Head → ℕ → Headed
+clocked h n = acted (inPhase h (Receiving n)) C
+
+-- ---- NACK: WE for a write, RE for a read
+abbrev pub noted : Head → Bool → Head
+noted h read = withFlags h (nackFlags (h .flags) read)
+
+-- unmasked: P, an error end
+unfoldable pub failed : Head → Headed
+failed h = acted (withWalk h (errorNoted (h .walk))) P
+
+-- ---- late with FEMSK 1: FE set, no more; otherwise FE is recorded
+abbrev pub lateBy : Head → Head
+lateBy h = withState h (lateFlags (h .flags) (femskOf h)) (lateWalk (h .walk) (femskOf h))
+
+-- ---- SDA sets DAE, SCL CLE, ILL SSE: the channel goes Idle, no action
+abbrev pub faulted : Head → Fault → Head
+faulted h f = withState h (faultFlags (h .flags) f) idle
+
+-- ---- the frame's end
+
+-- the flags and the walk that the ending leaves
+abbrev pub endedBy : Head → Ending → Head
+endedBy h e = withState h (endFlags (h .flags) (h .regs .te) (framecntOf h) e) (endWalk e)
+
+-- frame end, first that applies
+unfoldable pub frameEnded : Head → Head
+frameEnded h =
+    endedBy h
+    (endingOf (h .walk .fe) (h .walk .error) (h .walk .sto) (h .walk .seq) (restOf (h .regs .te) (framecntOf h) (h .walk .ended)))
+
+-- ---- CONTROL: Waiting, with no frame ended; STO or STOSEQ recorded
+abbrev pub waits : Head → Head
+waits h = withWalk h (waiting 0)
+
+abbrev pub stoTaken : Head → Head
+stoTaken h = withWalk h (stoRecorded (h .walk))
+
+abbrev pub seqTaken : Head → Head
+seqTaken h = withWalk h (seqRecorded (h .walk))
+
+-- ---- a table's pointer moved by one; DATA's to a place
+abbrev pub slaNext : Head → Head
+slaNext h = withPtrs h (record { sla = h .ptrs .sla + 1; conf = h .ptrs .conf; buf = h .ptrs .buf; count = h .ptrs .count })
+
+abbrev pub confNext : Head → Head
+confNext h = withPtrs h (record { sla = h .ptrs .sla; conf = h .ptrs .conf + 1; buf = h .ptrs .buf; count = h .ptrs .count })
+
+abbrev pub countNext : Head → Head
+countNext h = withPtrs h (record { sla = h .ptrs .sla; conf = h .ptrs .conf; buf = h .ptrs .buf; count = h .ptrs .count + 1 })
 
 abbrev pub dataTo : Head → ℕ → Head
-dataTo h n = headPtrs h (dataPtr (h .ptrs) n)
+dataTo h n = withPtrs h (record { sla = h .ptrs .sla; conf = h .ptrs .conf; buf = n; count = h .ptrs .count })
 
-abbrev pub countTo : Head → ℕ → Head
-countTo h n = headPtrs h (countPtr (h .ptrs) n)
+abbrev pub dataNext : Head → Head
+dataNext h = dataTo h (h .ptrs .buf + 1)
 
--- ---- registers replaced
+-- ---- registers replaced: INTMSK; TRANSEL and TRANOFS; TP and TE
 abbrev pub maskTo : Head → ℕ → Head
-maskTo h n = headRegs h (maskRegs (h .regs) n)
+maskTo h n = withRegs h (record { intmsk = n; transel = h .regs .transel; tranofs = h .regs .tranofs; tp = h .regs .tp; te = h .regs .te })
 
 abbrev pub placeTo : Head → ℕ → ℕ → Head
-placeTo h v o = headRegs h (placeRegs (h .regs) v o)
+placeTo h v o = withRegs h (record { intmsk = h .regs .intmsk; transel = v; tranofs = o; tp = h .regs .tp; te = h .regs .te })
 
 abbrev pub modeTo : Head → Bool → Bool → Head
-modeTo h tp te = headRegs h (modeRegs (h .regs) tp te)
+modeTo h tp te = withRegs h (record { intmsk = h .regs .intmsk; transel = h .regs .transel; tranofs = h .regs .tranofs; tp = tp; te = te })

@@ -1,7 +1,9 @@
 pub mod State
+pub mod Lent
 pub mod Head
 pub mod Range
 pub mod Wires
 pub mod Access
 pub mod Step
+pub mod Facts
 pub mod Laws

@@ -2,84 +2,107 @@
 ghost use mathlib.Core.Path.{_≡_};
 ghost use Prim.Native.Nat.{_+_, _<_, _≤_};
 ghost use lib.ListN.{length, getD, set};
-ghost use Rattle.rules.specs.Registers.{Known, activeOf, maskKept, controlValue, chstatusValue};
+ghost use Rattle.rules.specs.Registers.{chstatusValue, maskKept};
 ghost use Rattle.rules.specs.Tables.{startOf};
-ghost use Rattle.rules.specs.Access.{placeRefusal, keptIf, rewound, pointedAt};
+ghost use Rattle.rules.specs.Numbers.{bufferSize};
+ghost use Rattle.rules.specs.Access.{placeRefusal, spotOf, spotRefusal};
 ghost use Rattle.sequence.specs.Walk.{noFlags};
-ghost use Rattle.channel.specs.State.{fresh, zeros, plain};
-ghost use Rattle.channel.specs.Head.{joined, told, headFlags, headPtrs, slaTo, confTo, dataTo, countTo, maskTo, placeTo, modeTo, Writes, Reads, Turns, Numbers};
-ghost use Rattle.channel.specs.Access.{readRefusal, readBy, readOf, asked, controlled, refusalOf, writtenBy, storedBy, writeOf, writeStore, putOf, putStore};
-ghost use Rattle.channel.specs.Step.{Accepted};
+ghost use Rattle.rules.specs.Facts.{Known, KnownPlace};
+ghost use Rattle.channel.specs.State.{fresh, freshHead, zeros, keeping, on, plain, replied, withFlags, withSettings};
+ghost use Rattle.channel.specs.Lent.{lent, found, left, leaves};
+ghost use Rattle.channel.specs.Head.{endedBy, waits, stoTaken, seqTaken, slaNext, confNext, dataTo, dataNext, countNext, maskTo, placeTo};
+ghost use Rattle.channel.specs.Access.{settingOf, eitherAt, settingSet, readRefusal, controlOf, readBy, readOf};
+ghost use Rattle.channel.specs.Access.{dataPlace, moded, pointed, asked, controlled, refusalOf, selected, offset, writtenBy};
+ghost use Rattle.channel.specs.Step.{writeAt, readAt};
+ghost use Rattle.channel.specs.Facts.{Accepted};
 use crate::state::Head;
 use crate::state::Headed;
-use crate::state::fresh_settings;
+use crate::state::Settings;
 use rules::Command;
+use rules::DONE;
+use rules::NOWHERE;
+use rules::PAST_BUFFER;
+use rules::Place;
 use rules::Ptrs;
+use rules::READ_ONLY;
 use rules::Register;
-use sequence::Action;
 use sequence::Ask;
 use sequence::Ending;
 
+fn setting_of(s: Settings, n: usize) -> u8
+    ensures { λ r. ⌜ r ≡ settingOf s n ⌝ }
+{
+    if n == 0 {
+        s.framecnt
+    } else if n == 1 {
+        s.refrate
+    } else if n == 2 {
+        s.scll
+    } else if n == 3 {
+        s.sclh
+    } else if n == 4 {
+        s.mode
+    } else {
+        s.timeout
+    }
+}
+
+fn either_at(n: usize, k: usize, v: u8, old: u8) -> u8
+    ensures { λ r. ⌜ r ≡ eitherAt n k v old ⌝ }
+{
+    if n == k { v } else { old }
+}
+
+fn setting_set(s: Settings, n: usize, v: u8) -> Settings
+    ensures { λ r. ⌜ r ≡ settingSet s n v ⌝ }
+{
+    Settings {
+        framecnt: either_at(n, 0, v, s.framecnt),
+        refrate: either_at(n, 1, v, s.refrate),
+        scll: either_at(n, 2, v, s.scll),
+        sclh: either_at(n, 3, v, s.sclh),
+        mode: either_at(n, 4, v, s.mode),
+        timeout: either_at(n, 5, v, s.timeout),
+    }
+}
+
+// The number that refuses a read of DATA at a place.
+fn spot_refusal_at(at: usize) -> u8
+    ensures { λ r. ⌜ r ≡ spotRefusal (spotOf at) ⌝ }
+{
+    rules::spot_refusal(rules::find_place(at))
+}
+
 impl Head {
-    // ---- reads
+    // ---- pointers
 
-    fn read_refusal(self, reg: Register) -> u8
-        ensures { λ r. ⌜ r ≡ readRefusal (self .ptrs) reg ⌝ }
+    fn next_sla(self) -> Head
+        requires { ⌜ self .ptrs .sla < 64 ⌝ }
+        ensures { λ r. ⌜ r ≡ slaNext self ⌝ }
     {
-        let p = self.ptrs;
-        match reg {
-            Register::Status(_) => 0,
-            Register::Control => 0,
-            Register::Chstatus => 0,
-            Register::Intmsk => 0,
-            Register::Slatable => rules::past_refusal(63, p.sla),
-            Register::Tranconfig => rules::past_refusal(64, p.conf),
-            Register::Data => rules::place_refusal(p.buf),
-            Register::Transel => 0,
-            Register::Tranofs => 0,
-            Register::Bytecount => rules::past_refusal(63, p.count),
-            Register::Setting(_) => 0,
-            Register::Preset => 0,
-        }
-    }
-
-    fn read_status(self, status: &[u8; 64], n: usize) -> Headed
-        requires { ⌜ n < 64 ⌝ }
-        ensures { λ r. ⌜ r ≡ told self 0 (getD (now (status .entry)) n 0) Action.Nothing ⌝ }
-    {
-        let v = status[n];
-        self.reply(v)
-    }
-
-    fn read_control(self) -> Headed
-        ensures { λ r. ⌜ r ≡ told self 0 (controlValue (self .walk .seq) (activeOf (self .walk .phase)) (self .walk .sto) (self .regs .tp) (self .regs .te)) Action.Nothing ⌝ }
-    {
-        let w = self.walk;
-        let p = w.phase;
-        let v = rules::control_value(w.seq, rules::active(p), w.sto, self.regs.tp, self.regs.te);
-        self.reply(v)
-    }
-
-    fn read_chstatus(self) -> Headed
-        ensures { λ r. ⌜ r ≡ told (headFlags self noFlags) 0 (chstatusValue (self .flags)) Action.Nothing ⌝ }
-    {
-        let v = rules::chstatus_value(self.flags);
-        self.with_flags(sequence::no_flags()).reply(v)
-    }
-
-    fn sla_at(self, at: usize) -> Head
-        ensures { λ r. ⌜ r ≡ slaTo self at ⌝ }
-    {
+        let next = self.ptrs.sla + 1;
         let mut h = self;
-        h.ptrs.sla = at;
+        h.ptrs.sla = next;
         h
     }
 
-    fn conf_at(self, at: usize) -> Head
-        ensures { λ r. ⌜ r ≡ confTo self at ⌝ }
+    fn next_conf(self) -> Head
+        requires { ⌜ self .ptrs .conf < 65 ⌝ }
+        ensures { λ r. ⌜ r ≡ confNext self ⌝ }
     {
+        let next = self.ptrs.conf + 1;
         let mut h = self;
-        h.ptrs.conf = at;
+        h.ptrs.conf = next;
+        h
+    }
+
+    fn next_count(self) -> Head
+        requires { ⌜ self .ptrs .count < 64 ⌝ }
+        ensures { λ r. ⌜ r ≡ countNext self ⌝ }
+    {
+        let next = self.ptrs.count + 1;
+        let mut h = self;
+        h.ptrs.count = next;
         h
     }
 
@@ -91,35 +114,73 @@ impl Head {
         h
     }
 
-    fn count_at(self, at: usize) -> Head
-        ensures { λ r. ⌜ r ≡ countTo self at ⌝ }
+    // ---- reads
+
+    fn read_refusal(self, reg: Register) -> u8
+        ensures { λ r. ⌜ r ≡ readRefusal (self .ptrs) reg ⌝ }
     {
-        let mut h = self;
-        h.ptrs.count = at;
-        h
+        let p = self.ptrs;
+        match reg {
+            Register::Status(_) => DONE,
+            Register::Control => DONE,
+            Register::Chstatus => DONE,
+            Register::Intmsk => DONE,
+            Register::Slatable => rules::past_refusal(63, p.sla),
+            Register::Tranconfig => rules::past_refusal(64, p.conf),
+            Register::Data => spot_refusal_at(p.buf),
+            Register::Transel => DONE,
+            Register::Tranofs => DONE,
+            Register::Bytecount => rules::past_refusal(63, p.count),
+            Register::Setting(_) => DONE,
+            Register::Preset => DONE,
+        }
+    }
+
+    fn read_status(self, status: &[u8; 64], n: usize) -> Headed
+        requires { ⌜ n < 64 ⌝ }
+        ensures { λ r. ⌜ r ≡ replied self (getD (now (status .entry)) n 0) ⌝ }
+    {
+        let v = status[n];
+        self.reply(v)
+    }
+
+    fn read_control(self) -> Headed
+        ensures { λ r. ⌜ r ≡ replied self (controlOf self) ⌝ }
+    {
+        let w = self.walk;
+        let p = w.phase;
+        let v = rules::control_value(w.seq, rules::active(p), w.sto, self.regs.tp, self.regs.te);
+        self.reply(v)
+    }
+
+    fn read_chstatus(self) -> Headed
+        ensures { λ r. ⌜ r ≡ replied (withFlags self noFlags) (chstatusValue (self .flags)) ⌝ }
+    {
+        let v = rules::chstatus_value(self.flags);
+        self.with_flags(sequence::no_flags()).reply(v)
     }
 
     fn read_sla(self, sla: &[u8; 64]) -> Headed
         requires { ⌜ self .ptrs .sla < 64 ⌝ }
-        ensures { λ r. ⌜ r ≡ told (slaTo self (self .ptrs .sla + 1)) 0 (getD (now (sla .entry)) (self .ptrs .sla) 0) Action.Nothing ⌝ }
+        ensures { λ r. ⌜ r ≡ replied (slaNext self) (getD (now (sla .entry)) (self .ptrs .sla) 0) ⌝ }
     {
         let at = self.ptrs.sla;
         let v = sla[at];
-        self.sla_at(at + 1).reply(v)
+        self.next_sla().reply(v)
     }
 
     fn read_conf(self, lens: &[u8; 65]) -> Headed
         requires { ⌜ self .ptrs .conf < 65 ⌝ }
-        ensures { λ r. ⌜ r ≡ told (confTo self (self .ptrs .conf + 1)) 0 (getD (now (lens .entry)) (self .ptrs .conf) 0) Action.Nothing ⌝ }
+        ensures { λ r. ⌜ r ≡ replied (confNext self) (getD (now (lens .entry)) (self .ptrs .conf) 0) ⌝ }
     {
         let at = self.ptrs.conf;
         let v = lens[at];
-        self.conf_at(at + 1).reply(v)
+        self.next_conf().reply(v)
     }
 
     fn read_data(self, mem: &[u8]) -> Headed
         requires { ⌜ self .ptrs .buf < length (now mem) ⌝ }
-        ensures { λ r. ⌜ r ≡ told (dataTo self (self .ptrs .buf + 1)) 0 (getD (now (mem .entry)) (self .ptrs .buf) 0) Action.Nothing ⌝ }
+        ensures { λ r. ⌜ r ≡ replied (dataNext self) (getD (now (mem .entry)) (self .ptrs .buf) 0) ⌝ }
     {
         let at = self.ptrs.buf;
         let v = mem[at];
@@ -128,18 +189,17 @@ impl Head {
 
     fn read_count(self, counts: &[u8; 64]) -> Headed
         requires { ⌜ self .ptrs .count < 64 ⌝ }
-        ensures { λ r. ⌜ r ≡ told (countTo self (self .ptrs .count + 1)) 0 (getD (now (counts .entry)) (self .ptrs .count) 0) Action.Nothing ⌝ }
+        ensures { λ r. ⌜ r ≡ replied (countNext self) (getD (now (counts .entry)) (self .ptrs .count) 0) ⌝ }
     {
         let at = self.ptrs.count;
         let v = counts[at];
-        self.count_at(at + 1).reply(v)
+        self.next_count().reply(v)
     }
 
-    fn read_setting(self, settings: &[u8; 6], n: usize) -> Headed
-        requires { ⌜ n < 6 ⌝ }
-        ensures { λ r. ⌜ r ≡ told self 0 (getD (now (settings .entry)) n 0) Action.Nothing ⌝ }
+    fn read_setting(self, n: usize) -> Headed
+        ensures { λ r. ⌜ r ≡ replied self (settingOf (self .settings) n) ⌝ }
     {
-        let v = settings[n];
+        let v = setting_of(self.settings, n);
         self.reply(v)
     }
 
@@ -149,12 +209,11 @@ impl Head {
         lens: &'a [u8; 65],
         status: &'a [u8; 64],
         counts: &'a [u8; 64],
-        settings: &'a [u8; 6],
         mem: &'a [u8],
         reg: Register,
     ) -> Headed
-        requires { ⌜ Known reg × (readRefusal (self .ptrs) reg ≡ 0) × (length (now mem) ≡ 4352) ⌝ }
-        ensures { λ r. ⌜ Reads (λ c. readBy c (now (mem .entry)) reg) self (now (sla .entry)) (now (lens .entry)) (now (status .entry)) (now (counts .entry)) (now (settings .entry)) r ⌝ }
+        requires { ⌜ Known reg × (readRefusal (self .ptrs) reg ≡ 0) × (length (now mem) ≡ bufferSize) ⌝ }
+        ensures { λ r. ⌜ left r sla lens status counts ≡ readBy (found self sla lens status counts) (now (mem .entry)) reg ⌝ }
     {
         let g = self.regs;
         match reg {
@@ -168,36 +227,38 @@ impl Head {
             Register::Transel => self.reply(g.transel),
             Register::Tranofs => self.reply(g.tranofs),
             Register::Bytecount => self.read_count(counts),
-            Register::Setting(n) => self.read_setting(settings, n),
-            Register::Preset => self.answer(0),
+            Register::Setting(n) => self.read_setting(n),
+            Register::Preset => self.answer(DONE),
         }
     }
 
-    // A read of a register.
+    // A read at a place.
     pub(crate) fn read<'a>(
         self,
         sla: &'a [u8; 64],
         lens: &'a [u8; 65],
         status: &'a [u8; 64],
         counts: &'a [u8; 64],
-        settings: &'a [u8; 6],
         mem: &'a [u8],
-        reg: Register,
+        place: Place,
     ) -> Headed
-        requires { ⌜ Known reg × (length (now mem) ≡ 4352) ⌝ }
-        ensures { λ r. ⌜ Reads (λ c. readOf c (now (mem .entry)) reg) self (now (sla .entry)) (now (lens .entry)) (now (status .entry)) (now (counts .entry)) (now (settings .entry)) r ⌝ }
+        requires { ⌜ KnownPlace place × (length (now mem) ≡ bufferSize) ⌝ }
+        ensures { λ r. ⌜ leaves r sla lens status counts mem ≡ readAt (found self sla lens status counts) (now (mem .entry)) place ⌝ }
     {
+        let Place::Here(reg) = place else {
+            return self.answer(NOWHERE);
+        };
         let n = self.read_refusal(reg);
         if n != 0 {
             return self.answer(n);
         }
-        self.read_by(sla, lens, status, counts, settings, mem, reg)
+        self.read_by(sla, lens, status, counts, mem, reg)
     }
 
     // ---- a write to CONTROL
 
     fn set_modes(self, k: Command) -> Head
-        ensures { λ r. ⌜ r ≡ modeTo self (keptIf (activeOf (self .walk .phase)) (self .regs .tp) (k .tp)) (keptIf (activeOf (self .walk .phase)) (self .regs .te) (k .te)) ⌝ }
+        ensures { λ r. ⌜ r ≡ moded self k ⌝ }
     {
         let w = self.walk;
         let p = w.phase;
@@ -212,7 +273,7 @@ impl Head {
 
     fn data_place(self, lens: &[u8; 65]) -> usize
         requires { ⌜ self .regs .transel ≤ 63 ⌝ }
-        ensures { λ r. ⌜ r ≡ startOf (now (lens .entry)) (self .regs .transel) + self .regs .tranofs ⌝ }
+        ensures { λ r. ⌜ r ≡ dataPlace self (now (lens .entry)) ⌝ }
     {
         let sel = self.regs.transel;
         let ofs = self.regs.tranofs;
@@ -220,12 +281,7 @@ impl Head {
     }
 
     fn set_pointers(self, k: Command, place: usize) -> Head
-        ensures { λ r. ⌜ r ≡ headPtrs self (record {
-          sla = rewound (k .aiptrrst) (self .ptrs .sla);
-          conf = rewound (k .aiptrrst) (self .ptrs .conf);
-          buf = pointedAt (k .aiptrrst) place (self .ptrs .buf);
-          count = rewound (k .bptrrst) (self .ptrs .count);
-        }) ⌝ }
+        ensures { λ r. ⌜ r ≡ pointed self k place ⌝ }
     {
         let p = self.ptrs;
         let ptrs = Ptrs {
@@ -239,29 +295,45 @@ impl Head {
         h
     }
 
+    fn wait(self) -> Headed
+        ensures { λ r. ⌜ r ≡ plain (waits self) ⌝ }
+    {
+        self.with_walk(sequence::waiting_walk(0)).answer(DONE)
+    }
+
+    fn take_sto(self) -> Headed
+        ensures { λ r. ⌜ r ≡ plain (stoTaken self) ⌝ }
+    {
+        let w = self.walk;
+        self.with_walk(sequence::record_sto(w)).answer(DONE)
+    }
+
+    fn take_seq(self) -> Headed
+        ensures { λ r. ⌜ r ≡ plain (seqTaken self) ⌝ }
+    {
+        let w = self.walk;
+        self.with_walk(sequence::record_seq(w)).answer(DONE)
+    }
+
     fn ask<'a>(
         self,
         sla: &'a [u8; 64],
         lens: &'a [u8; 65],
         status: &'a mut [u8; 64],
         counts: &'a mut [u8; 64],
-        settings: &'a [u8; 6],
         a: Ask,
     ) -> Headed
         requires { ⌜ getD (now lens) 0 0 ≤ 64 ⌝ }
-        ensures { λ r. ⌜ Turns (λ c. asked c a) self
-            (now (sla .entry)) (now (lens .entry)) (now (status .entry)) (now (counts .entry)) (now (settings .entry))
-            r (now (status .exit)) (now (counts .exit)) ⌝ }
+        ensures { λ r. ⌜ left r sla lens status counts ≡ asked (found self sla lens status counts) a ⌝ }
     {
-        let w = self.walk;
         match a {
-            Ask::Nothing => self.answer(0),
-            Ask::Overrun => self.answer(5),
-            Ask::Begin => self.begin(sla, lens, status, counts, settings).anew(),
-            Ask::Wait => self.with_walk(sequence::waiting_walk(0)).answer(0),
-            Ask::Sto => self.with_walk(sequence::record_sto(w)).answer(0),
-            Ask::Seq => self.with_walk(sequence::record_seq(w)).answer(0),
-            Ask::Leave => self.end_by(settings[0], Ending::Sd).answer(0),
+            Ask::Nothing => self.answer(DONE),
+            Ask::Overrun => self.answer(PAST_BUFFER),
+            Ask::Begin => self.begin_anew(sla, lens, status, counts),
+            Ask::Wait => self.wait(),
+            Ask::Sto => self.take_sto(),
+            Ask::Seq => self.take_seq(),
+            Ask::Leave => self.end_by(Ending::Sd),
         }
     }
 
@@ -271,13 +343,10 @@ impl Head {
         lens: &'a [u8; 65],
         status: &'a mut [u8; 64],
         counts: &'a mut [u8; 64],
-        settings: &'a [u8; 6],
         k: Command,
     ) -> Headed
         requires { ⌜ (self .regs .transel ≤ 63) × (getD (now lens) 0 0 ≤ 64) ⌝ }
-        ensures { λ r. ⌜ Turns (λ c. controlled c k) self
-            (now (sla .entry)) (now (lens .entry)) (now (status .entry)) (now (counts .entry)) (now (settings .entry))
-            r (now (status .exit)) (now (counts .exit)) ⌝ }
+        ensures { λ r. ⌜ left r sla lens status counts ≡ controlled (found self sla lens status counts) k ⌝ }
     {
         let w = self.walk;
         let p = w.phase;
@@ -286,7 +355,7 @@ impl Head {
         let te = rules::kept_if(rules::active(p), self.regs.te, k.te);
         let a = sequence::ask_of(p, k, te, over);
         let h = self.set_modes(k).set_pointers(k, place);
-        h.ask(sla, lens, status, counts, settings, a)
+        h.ask(sla, lens, status, counts, a)
     }
 
     // ---- writes
@@ -302,76 +371,76 @@ impl Head {
 
     fn refusal(self, lens: &[u8; 65], reg: Register, v: u8) -> u8
         requires { ⌜ self .regs .transel ≤ 63 ⌝ }
-        ensures { λ r. ⌜ Numbers (λ c. refusalOf c reg v) self (now (lens .entry)) r ⌝ }
+        ensures { λ r. ⌜ r ≡ refusalOf self (now (lens .entry)) reg v ⌝ }
     {
         let w = self.walk;
         let phase = w.phase;
         let p = self.ptrs;
         match reg {
-            Register::Status(_) => 2,
-            Register::Control => 0,
-            Register::Chstatus => 2,
-            Register::Intmsk => 0,
+            Register::Status(_) => READ_ONLY,
+            Register::Control => DONE,
+            Register::Chstatus => READ_ONLY,
+            Register::Intmsk => DONE,
             Register::Slatable => rules::sla_refusal(phase, p.sla),
             Register::Tranconfig => rules::conf_refusal(phase, p.conf, v),
-            Register::Data => rules::data_refusal(phase, p.buf),
+            Register::Data => rules::data_refusal(phase, rules::find_place(p.buf)),
             Register::Transel => rules::sel_refusal(lens, v),
             Register::Tranofs => self.ofs_refusal(lens, v),
-            Register::Bytecount => 2,
+            Register::Bytecount => READ_ONLY,
             Register::Setting(_) => rules::busy_refusal(phase),
-            Register::Preset => 0,
+            Register::Preset => DONE,
         }
     }
 
     fn write_mask(self, v: u8) -> Headed
-        ensures { λ r. ⌜ r ≡ told (maskTo self (maskKept v)) 0 0 Action.Nothing ⌝ }
+        ensures { λ r. ⌜ r ≡ plain (maskTo self (maskKept v)) ⌝ }
     {
         let mask = rules::mask_kept(v);
         let mut h = self;
         h.regs.intmsk = mask;
-        h.answer(0)
+        h.answer(DONE)
     }
 
     fn write_sla(self, sla: &mut [u8; 64], v: u8) -> Headed
         requires { ⌜ self .ptrs .sla < 64 ⌝ }
-        ensures { λ r. ⌜ (r ≡ told (slaTo self (self .ptrs .sla + 1)) 0 0 Action.Nothing) × (now (sla .exit) ≡ set (now (sla .entry)) (self .ptrs .sla) v) ⌝ }
+        ensures { λ r. ⌜ (r ≡ plain (slaNext self)) × (now (sla .exit) ≡ set (now (sla .entry)) (self .ptrs .sla) v) ⌝ }
     {
         let at = self.ptrs.sla;
         sla[at] = v;
-        self.sla_at(at + 1).answer(0)
+        self.next_sla().answer(DONE)
     }
 
     fn write_conf(self, lens: &mut [u8; 65], v: u8) -> Headed
         requires { ⌜ self .ptrs .conf < 65 ⌝ }
-        ensures { λ r. ⌜ (r ≡ told (confTo self (self .ptrs .conf + 1)) 0 0 Action.Nothing) × (now (lens .exit) ≡ set (now (lens .entry)) (self .ptrs .conf) v) ⌝ }
+        ensures { λ r. ⌜ (r ≡ plain (confNext self)) × (now (lens .exit) ≡ set (now (lens .entry)) (self .ptrs .conf) v) ⌝ }
     {
         let at = self.ptrs.conf;
         lens[at] = v;
-        self.conf_at(at + 1).answer(0)
+        self.next_conf().answer(DONE)
     }
 
     fn write_data(self, mem: &mut [u8], v: u8) -> Headed
         requires { ⌜ self .ptrs .buf < length (now mem) ⌝ }
-        ensures { λ r. ⌜ (r ≡ told (dataTo self (self .ptrs .buf + 1)) 0 0 Action.Nothing) × (now (mem .exit) ≡ set (now (mem .entry)) (self .ptrs .buf) v) ⌝ }
+        ensures { λ r. ⌜ (r ≡ plain (dataNext self)) × (now (mem .exit) ≡ set (now (mem .entry)) (self .ptrs .buf) v) ⌝ }
     {
         let at = self.ptrs.buf;
         mem[at] = v;
-        self.data_at(at + 1).answer(0)
+        self.data_at(at + 1).answer(DONE)
     }
 
     fn place(self, v: u8, o: u8, at: usize) -> Headed
-        ensures { λ r. ⌜ r ≡ told (dataTo (placeTo self v o) at) 0 0 Action.Nothing ⌝ }
+        ensures { λ r. ⌜ r ≡ plain (dataTo (placeTo self v o) at) ⌝ }
     {
         let mut h = self;
         h.regs.transel = v;
         h.regs.tranofs = o;
         h.ptrs.buf = at;
-        h.answer(0)
+        h.answer(DONE)
     }
 
     fn select(self, lens: &[u8; 65], v: u8) -> Headed
         requires { ⌜ v ≤ 63 ⌝ }
-        ensures { λ r. ⌜ r ≡ told (dataTo (placeTo self v 0) (startOf (now (lens .entry)) v)) 0 0 Action.Nothing ⌝ }
+        ensures { λ r. ⌜ r ≡ plain (selected self (now (lens .entry)) v) ⌝ }
     {
         let start = rules::start_of(lens, v as usize);
         self.place(v, 0, start)
@@ -379,19 +448,20 @@ impl Head {
 
     fn offset(self, lens: &[u8; 65], v: u8) -> Headed
         requires { ⌜ self .regs .transel ≤ 63 ⌝ }
-        ensures { λ r. ⌜ r ≡ told (dataTo (placeTo self (self .regs .transel) v) (startOf (now (lens .entry)) (self .regs .transel) + v)) 0 0 Action.Nothing ⌝ }
+        ensures { λ r. ⌜ r ≡ plain (offset self (now (lens .entry)) v) ⌝ }
     {
         let sel = self.regs.transel;
         let start = rules::start_of(lens, sel as usize);
         self.place(sel, v, start + rules::byte(v))
     }
 
-    fn write_setting(self, settings: &mut [u8; 6], n: usize, v: u8) -> Headed
-        requires { ⌜ n < 6 ⌝ }
-        ensures { λ r. ⌜ (r ≡ told self 0 0 Action.Nothing) × (now (settings .exit) ≡ set (now (settings .entry)) n v) ⌝ }
+    fn write_setting(self, n: usize, v: u8) -> Headed
+        ensures { λ r. ⌜ r ≡ plain (withSettings self (settingSet (self .settings) n v)) ⌝ }
     {
-        settings[n] = v;
-        self.answer(0)
+        let s = setting_set(self.settings, n, v);
+        let mut h = self;
+        h.settings = s;
+        h.answer(DONE)
     }
 
     fn write_by<'a>(
@@ -400,59 +470,27 @@ impl Head {
         lens: &'a mut [u8; 65],
         status: &'a mut [u8; 64],
         counts: &'a mut [u8; 64],
-        settings: &'a mut [u8; 6],
         mem: &'a mut [u8],
         reg: Register,
         v: u8,
     ) -> Headed
-        requires { ⌜ Accepted (joined self (now sla) (now lens) (now status) (now counts) (now settings)) (now mem)
-            × Known reg
-            × (refusalOf (joined self (now sla) (now lens) (now status) (now counts) (now settings)) reg v ≡ 0) ⌝ }
-        ensures { λ r. ⌜ Writes (λ c. writtenBy c reg v) self
-            (now (sla .entry)) (now (lens .entry)) (now (status .entry)) (now (counts .entry)) (now (settings .entry))
-            r (now (sla .exit)) (now (lens .exit)) (now (status .exit)) (now (counts .exit)) (now (settings .exit))
-            × (now (mem .exit) ≡ storedBy (joined self (now (sla .entry)) (now (lens .entry)) (now (status .entry)) (now (counts .entry)) (now (settings .entry))) (now (mem .entry)) reg v) ⌝ }
+        requires { ⌜ Accepted (lent self sla lens status counts) (now mem) × Known reg × (refusalOf self (now lens) reg v ≡ 0) ⌝ }
+        ensures { λ r. ⌜ leaves r sla lens status counts mem ≡ writtenBy (found self sla lens status counts) (now (mem .entry)) reg v ⌝ }
     {
         match reg {
-            Register::Status(_) => self.answer(0),
-            Register::Control => {
-                self.control(sla, lens, status, counts, settings, rules::command_of(v))
-            }
-            Register::Chstatus => self.answer(0),
+            Register::Status(_) => self.answer(DONE),
+            Register::Control => self.control(sla, lens, status, counts, rules::command_of(v)),
+            Register::Chstatus => self.answer(DONE),
             Register::Intmsk => self.write_mask(v),
             Register::Slatable => self.write_sla(sla, v),
             Register::Tranconfig => self.write_conf(lens, v),
             Register::Data => self.write_data(mem, v),
             Register::Transel => self.select(lens, v),
             Register::Tranofs => self.offset(lens, v),
-            Register::Bytecount => self.answer(0),
-            Register::Setting(n) => self.write_setting(settings, n, v),
-            Register::Preset => self.answer(0),
+            Register::Bytecount => self.answer(DONE),
+            Register::Setting(n) => self.write_setting(n, v),
+            Register::Preset => self.answer(DONE),
         }
-    }
-
-    fn write<'a>(
-        self,
-        sla: &'a mut [u8; 64],
-        lens: &'a mut [u8; 65],
-        status: &'a mut [u8; 64],
-        counts: &'a mut [u8; 64],
-        settings: &'a mut [u8; 6],
-        mem: &'a mut [u8],
-        reg: Register,
-        v: u8,
-    ) -> Headed
-        requires { ⌜ Accepted (joined self (now sla) (now lens) (now status) (now counts) (now settings)) (now mem) × Known reg ⌝ }
-        ensures { λ r. ⌜ Writes (λ c. writeOf c reg v) self
-            (now (sla .entry)) (now (lens .entry)) (now (status .entry)) (now (counts .entry)) (now (settings .entry))
-            r (now (sla .exit)) (now (lens .exit)) (now (status .exit)) (now (counts .exit)) (now (settings .exit))
-            × (now (mem .exit) ≡ writeStore (joined self (now (sla .entry)) (now (lens .entry)) (now (status .entry)) (now (counts .entry)) (now (settings .entry))) (now (mem .entry)) reg v) ⌝ }
-    {
-        let n = self.refusal(lens, reg, v);
-        if n != 0 {
-            return self.answer(n);
-        }
-        self.write_by(sla, lens, status, counts, settings, mem, reg, v)
     }
 
     // The channel and its bytes as a reset leaves them.
@@ -462,48 +500,45 @@ impl Head {
         lens: &'a mut [u8; 65],
         status: &'a mut [u8; 64],
         counts: &'a mut [u8; 64],
-        settings: &'a mut [u8; 6],
         mem: &'a mut [u8],
     ) -> Headed
-        requires { ⌜ length (now mem) ≡ 4352 ⌝ }
-        ensures { λ r. ⌜ Writes (λ c. plain fresh) self
-            (now (sla .entry)) (now (lens .entry)) (now (status .entry)) (now (counts .entry)) (now (settings .entry))
-            r (now (sla .exit)) (now (lens .exit)) (now (status .exit)) (now (counts .exit)) (now (settings .exit))
-            × (now (mem .exit) ≡ zeros) ⌝ }
+        requires { ⌜ length (now mem) ≡ bufferSize ⌝ }
+        ensures { λ r. ⌜ leaves r sla lens status counts mem ≡ keeping zeros (on fresh (plain freshHead)) ⌝ }
     {
         rules::wipe(mem);
         *sla = [0; 64];
         *lens = [0; 65];
         *status = [0; 64];
         *counts = [0; 64];
-        *settings = fresh_settings();
-        Head::new().answer(0)
+        Head::new().answer(DONE)
     }
 
-    // A write to a register: the reset by the key, or the write that forgets the key.
-    pub(crate) fn put<'a>(
+    // A write at a place: the reset by the key, or the write, after which the key is A5h at PRESET or none.
+    pub(crate) fn write<'a>(
         self,
         sla: &'a mut [u8; 64],
         lens: &'a mut [u8; 65],
         status: &'a mut [u8; 64],
         counts: &'a mut [u8; 64],
-        settings: &'a mut [u8; 6],
         mem: &'a mut [u8],
-        reg: Register,
+        place: Place,
         v: u8,
     ) -> Headed
-        requires { ⌜ Accepted (joined self (now sla) (now lens) (now status) (now counts) (now settings)) (now mem) × Known reg ⌝ }
-        ensures { λ r. ⌜ Writes (λ c. putOf c reg v) self
-            (now (sla .entry)) (now (lens .entry)) (now (status .entry)) (now (counts .entry)) (now (settings .entry))
-            r (now (sla .exit)) (now (lens .exit)) (now (status .exit)) (now (counts .exit)) (now (settings .exit))
-            × (now (mem .exit) ≡ putStore (joined self (now (sla .entry)) (now (lens .entry)) (now (status .entry)) (now (counts .entry)) (now (settings .entry))) (now (mem .entry)) reg v) ⌝ }
+        requires { ⌜ Accepted (lent self sla lens status counts) (now mem) × KnownPlace place ⌝ }
+        ensures { λ r. ⌜ leaves r sla lens status counts mem ≡ writeAt (found self sla lens status counts) (now (mem .entry)) place v ⌝ }
     {
+        let Place::Here(reg) = place else {
+            return self.answer(NOWHERE);
+        };
         let preset = rules::is_preset(reg);
         if rules::resets(preset, v, self.key) {
-            return self.reset(sla, lens, status, counts, settings, mem);
+            return self.reset(sla, lens, status, counts, mem);
         }
-        let key = rules::key_after(preset, v);
-        self.with_key(key)
-            .write(sla, lens, status, counts, settings, mem, reg, v)
+        let h = self.with_key(rules::key_after(preset, v));
+        let n = h.refusal(lens, reg, v);
+        if n != 0 {
+            return h.answer(n);
+        }
+        h.write_by(sla, lens, status, counts, mem, reg, v)
     }
 }

@@ -9,5 +9,6 @@ pub use state::Answer;
 pub use state::Channel;
 pub use state::Head;
 pub use state::Headed;
+pub use state::Settings;
 pub use state::Stepped;
 pub use step::Op;

@@ -7,11 +7,12 @@ impl Channel {
     pub fn in_range(self) -> bool
         ensures { λ r. ⌜ r ≡ inRange self ⌝ }
     {
-        let w = self.walk;
+        let h = self.head;
+        let w = h.walk;
         let phase = w.phase;
-        if rules::pointers_in(self.ptrs) {
-            if rules::registers_in(self.tranconfig[0], self.regs.transel, self.regs.intmsk) {
-                if rules::walk_in(w, self.regs.te, self.settings[0]) {
+        if rules::pointers_in(h.ptrs) {
+            if rules::registers_in(self.tranconfig[0], h.regs.transel, h.regs.intmsk) {
+                if rules::walk_in(w, h.regs.te, h.settings.framecnt) {
                     rules::frame_in(phase, &self.slatable, &self.tranconfig, &self.bytecount)
                 } else {
                     false

@@ -1,36 +1,41 @@
 // The record of a channel, what a step answers, and the changes of one part of the record.
 ghost use mathlib.Core.Path.{_≡_};
-ghost use Rattle.channel.specs.State.{fresh, numbered};
-ghost use Rattle.channel.specs.Head.{freshHead, headOf, joined, told, headWalk, headFlags, headKey};
+ghost use Rattle.channel.specs.State.{fresh, freshHead, on, refused, replied, acted, withWalk, withFlags, withState, withKey};
+use rules::DONE;
 use rules::Flags;
 use rules::Ptrs;
 use rules::Regs;
 use rules::Walk;
 use sequence::Action;
 
-// A channel: its tables, statuses and counts; the settings FRAMECNT, REFRATE, SCLL, SCLH, MODE and TIMEOUT; its other registers, flags, pointers,
-// the walk of its sequence, and whether A5h was written to PRESET. No two arrays stand side by side: so each is copied by itself, and quickly.
-pub struct Channel {
-    pub slatable: [u8; 64],
-    pub ptrs: Ptrs,
-    pub status: [u8; 64],
-    pub walk: Walk,
-    pub bytecount: [u8; 64],
-    pub flags: Flags,
-    pub tranconfig: [u8; 65],
-    pub regs: Regs,
-    pub settings: [u8; 6],
-    pub key: bool,
+// FRAMECNT, REFRATE, SCLL, SCLH, MODE and TIMEOUT.
+pub struct Settings {
+    pub framecnt: u8,
+    pub refrate: u8,
+    pub scll: u8,
+    pub sclh: u8,
+    pub mode: u8,
+    pub timeout: u8,
 }
 
-// A channel without its tables. A step takes it by value and has the tables lent, so that no table is copied from call to call.
-// In this order of its fields it is copied quickest.
+// A channel without its tables: its registers and settings, flags, pointers, the walk of its sequence, and whether A5h was written to PRESET.
+// A step takes it by value and has the tables lent, so that no table is copied from call to call.
 pub struct Head {
     pub regs: Regs,
     pub key: bool,
+    pub settings: Settings,
     pub ptrs: Ptrs,
     pub flags: Flags,
     pub walk: Walk,
+}
+
+// A channel: its head, and its tables, statuses and counts.
+pub struct Channel {
+    pub slatable: [u8; 64],
+    pub head: Head,
+    pub status: [u8; 64],
+    pub bytecount: [u8; 64],
+    pub tranconfig: [u8; 65],
 }
 
 // The number of document 01, the value of a read, and the action.
@@ -57,30 +62,18 @@ impl Channel {
     pub fn new() -> Self
         ensures { λ r. ⌜ r ≡ fresh ⌝ }
     {
-        let h = Head::new();
-        h.join([0; 64], [0; 65], [0; 64], [0; 64], fresh_settings())
-    }
-
-    // All of the channel but its tables.
-    pub fn head(self) -> Head
-        ensures { λ r. ⌜ r ≡ headOf self ⌝ }
-    {
-        let flags = self.flags;
-        let ptrs = self.ptrs;
-        let walk = self.walk;
-        let regs = self.regs;
-        Head {
-            flags,
-            ptrs,
-            walk,
-            regs,
-            key: self.key,
+        Channel {
+            slatable: [0; 64],
+            head: Head::new(),
+            status: [0; 64],
+            bytecount: [0; 64],
+            tranconfig: [0; 65],
         }
     }
 
     // The record with an answer's number and nothing else.
     pub(crate) fn answer(self, number: u8) -> Stepped
-        ensures { λ r. ⌜ r ≡ numbered self number ⌝ }
+        ensures { λ r. ⌜ r ≡ on self (refused (self .head) number) ⌝ }
     {
         Stepped {
             channel: self,
@@ -91,13 +84,6 @@ impl Channel {
             },
         }
     }
-}
-
-// FRAMECNT, REFRATE, SCLL, SCLH, MODE and TIMEOUT as a reset leaves them.
-pub(crate) fn fresh_settings() -> [u8; 6]
-    ensures { λ r. ⌜ r ≡ fresh .settings ⌝ }
-{
-    [0x01, 0x00, 0x5E, 0x3F, 0x92, 0x00]
 }
 
 impl Head {
@@ -113,21 +99,29 @@ impl Head {
                 tp: false,
                 te: false,
             },
-            flags: sequence::no_flags(),
+            key: false,
+            settings: Settings {
+                framecnt: 0x01,
+                refrate: 0x00,
+                scll: 0x5E,
+                sclh: 0x3F,
+                mode: 0x92,
+                timeout: 0x00,
+            },
             ptrs: Ptrs {
                 sla: 0,
                 conf: 0,
                 buf: 0,
                 count: 0,
             },
+            flags: sequence::no_flags(),
             walk: sequence::idle_walk(),
-            key: false,
         }
     }
 
     // The head with an answer's number and nothing else.
     pub(crate) fn answer(self, number: u8) -> Headed
-        ensures { λ r. ⌜ r ≡ told self number 0 Action.Nothing ⌝ }
+        ensures { λ r. ⌜ r ≡ refused self number ⌝ }
     {
         Headed {
             head: self,
@@ -141,12 +135,12 @@ impl Head {
 
     // The head with the value of a read.
     pub(crate) fn reply(self, value: u8) -> Headed
-        ensures { λ r. ⌜ r ≡ told self 0 value Action.Nothing ⌝ }
+        ensures { λ r. ⌜ r ≡ replied self value ⌝ }
     {
         Headed {
             head: self,
             answer: Answer {
-                number: 0,
+                number: DONE,
                 value,
                 action: Action::Nothing,
             },
@@ -155,12 +149,12 @@ impl Head {
 
     // The head with an action.
     pub(crate) fn act(self, action: Action) -> Headed
-        ensures { λ r. ⌜ r ≡ told self 0 0 action ⌝ }
+        ensures { λ r. ⌜ r ≡ acted self action ⌝ }
     {
         Headed {
             head: self,
             answer: Answer {
-                number: 0,
+                number: DONE,
                 value: 0,
                 action,
             },
@@ -168,15 +162,24 @@ impl Head {
     }
 
     pub(crate) fn with_walk(self, w: Walk) -> Head
-        ensures { λ r. ⌜ r ≡ headWalk self w ⌝ }
+        ensures { λ r. ⌜ r ≡ withWalk self w ⌝ }
     {
         let mut h = self;
         h.walk = w;
         h
     }
 
+    pub(crate) fn with_state(self, f: Flags, w: Walk) -> Head
+        ensures { λ r. ⌜ r ≡ withState self f w ⌝ }
+    {
+        let mut h = self;
+        h.flags = f;
+        h.walk = w;
+        h
+    }
+
     pub(crate) fn with_key(self, key: bool) -> Head
-        ensures { λ r. ⌜ r ≡ headKey self key ⌝ }
+        ensures { λ r. ⌜ r ≡ withKey self key ⌝ }
     {
         let mut h = self;
         h.key = key;
@@ -184,40 +187,11 @@ impl Head {
     }
 
     pub(crate) fn with_flags(self, f: Flags) -> Head
-        ensures { λ r. ⌜ r ≡ headFlags self f ⌝ }
+        ensures { λ r. ⌜ r ≡ withFlags self f ⌝ }
     {
         let mut h = self;
         h.flags = f;
         h
-    }
-
-    // The channel of this head and these tables.
-    pub fn join(
-        self,
-        sla: [u8; 64],
-        lens: [u8; 65],
-        status: [u8; 64],
-        counts: [u8; 64],
-        settings: [u8; 6],
-    ) -> Channel
-        ensures { λ r. ⌜ r ≡ joined self sla lens status counts settings ⌝ }
-    {
-        let regs = self.regs;
-        let flags = self.flags;
-        let ptrs = self.ptrs;
-        let walk = self.walk;
-        Channel {
-            slatable: sla,
-            tranconfig: lens,
-            status,
-            bytecount: counts,
-            settings,
-            regs,
-            flags,
-            ptrs,
-            walk,
-            key: self.key,
-        }
     }
 }
 

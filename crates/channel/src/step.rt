@@ -1,16 +1,18 @@
 // One step of a single channel: a write, a read, or an event of the wires.
 ghost use mathlib.Core.Path.{_≡_};
-ghost use lib.ListN.{length};
-ghost use Rattle.rules.specs.Registers.{KnownPlace};
-ghost use Rattle.sequence.specs.Wires.{turnOf};
-ghost use Rattle.channel.specs.Head.{joined, Writes, Reads, Turns};
-ghost use Rattle.channel.specs.Range.{inRange};
-ghost use Rattle.channel.specs.Step.{writeAt, storeAt, readAt, eventAt, eventStore, servedBy, servedStore, rangeNumber, stepOf, bytesAfter, Accepted};
+ghost use Rattle.rules.specs.Numbers.{bufferSize};
+ghost use Rattle.channel.specs.State.{keeping};
+ghost use Rattle.channel.specs.Lent.{lent, found, leaves};
+ghost use Rattle.channel.specs.Step.{turnAt, eventAt, servedBy, rangeNumber, stepOf, bytesAfter};
+ghost use Rattle.channel.specs.Facts.{Accepted};
 use crate::state::Channel;
 use crate::state::Head;
 use crate::state::Headed;
 use crate::state::Stepped;
-use rules::Place;
+use rules::BUFFER;
+use rules::DONE;
+use rules::NOWHERE;
+use rules::OUT_OF_RANGE;
 use sequence::Event;
 use sequence::Turn;
 
@@ -21,65 +23,24 @@ pub enum Op {
     Wire(Event),
 }
 
-fn range_refusal(len: usize, ok: bool) -> u8
+// No. 9, or 0: of a memory of this length, and a record that is in range or not.
+fn range_number(len: usize, ok: bool) -> u8
     ensures { λ r. ⌜ r ≡ rangeNumber len ok ⌝ }
 {
-    if len == 4352 {
-        if ok { 0 } else { 9 }
+    if len == BUFFER {
+        if ok { DONE } else { OUT_OF_RANGE }
     } else {
-        9
+        OUT_OF_RANGE
     }
 }
 
 impl Head {
-    fn write_at<'a>(
-        self,
-        sla: &'a mut [u8; 64],
-        lens: &'a mut [u8; 65],
-        status: &'a mut [u8; 64],
-        counts: &'a mut [u8; 64],
-        settings: &'a mut [u8; 6],
-        mem: &'a mut [u8],
-        place: Place,
-        v: u8,
-    ) -> Headed
-        requires { ⌜ Accepted (joined self (now sla) (now lens) (now status) (now counts) (now settings)) (now mem) × KnownPlace place ⌝ }
-        ensures { λ r. ⌜ Writes (λ c. writeAt c place v) self
-            (now (sla .entry)) (now (lens .entry)) (now (status .entry)) (now (counts .entry)) (now (settings .entry))
-            r (now (sla .exit)) (now (lens .exit)) (now (status .exit)) (now (counts .exit)) (now (settings .exit))
-            × (now (mem .exit) ≡ storeAt (joined self (now (sla .entry)) (now (lens .entry)) (now (status .entry)) (now (counts .entry)) (now (settings .entry))) (now (mem .entry)) place v) ⌝ }
-    {
-        let Place::Here(reg) = place else {
-            return self.answer(1);
-        };
-        self.put(sla, lens, status, counts, settings, mem, reg, v)
-    }
-
-    fn read_at<'a>(
-        self,
-        sla: &'a [u8; 64],
-        lens: &'a [u8; 65],
-        status: &'a [u8; 64],
-        counts: &'a [u8; 64],
-        settings: &'a [u8; 6],
-        mem: &'a [u8],
-        place: Place,
-    ) -> Headed
-        requires { ⌜ KnownPlace place × (length (now mem) ≡ 4352) ⌝ }
-        ensures { λ r. ⌜ Reads (λ c. readAt c (now (mem .entry)) place) self (now (sla .entry)) (now (lens .entry)) (now (status .entry)) (now (counts .entry)) (now (settings .entry)) r ⌝ }
-    {
-        let Place::Here(reg) = place else {
-            return self.answer(1);
-        };
-        self.read(sla, lens, status, counts, settings, mem, reg)
-    }
-
-    fn turn_at(self, framecnt: u8, e: Event) -> Turn
-        ensures { λ r. ⌜ r ≡ turnOf (self .walk .phase) (self .regs .te) framecnt e ⌝ }
+    fn turn_at(self, e: Event) -> Turn
+        ensures { λ r. ⌜ r ≡ turnAt self e ⌝ }
     {
         let w = self.walk;
         let p = w.phase;
-        sequence::turn_of(p, self.regs.te, framecnt, e)
+        sequence::turn_of(p, self.regs.te, self.settings.framecnt, e)
     }
 
     fn event_at<'a>(
@@ -88,22 +49,18 @@ impl Head {
         lens: &'a [u8; 65],
         status: &'a mut [u8; 64],
         counts: &'a mut [u8; 64],
-        settings: &'a [u8; 6],
         mem: &'a mut [u8],
         number: u8,
         e: Event,
     ) -> Headed
-        requires { ⌜ Accepted (joined self (now sla) (now lens) (now status) (now counts) (now settings)) (now mem) ⌝ }
-        ensures { λ r. ⌜ Turns (λ c. eventAt c (now (mem .entry)) number e) self
-            (now (sla .entry)) (now (lens .entry)) (now (status .entry)) (now (counts .entry)) (now (settings .entry))
-            r (now (status .exit)) (now (counts .exit))
-            × (now (mem .exit) ≡ eventStore (joined self (now (sla .entry)) (now (lens .entry)) (now (status .entry)) (now (counts .entry)) (now (settings .entry))) (now (mem .entry)) number e) ⌝ }
+        requires { ⌜ Accepted (lent self sla lens status counts) (now mem) ⌝ }
+        ensures { λ r. ⌜ leaves r sla lens status counts mem ≡ eventAt (found self sla lens status counts) (now (mem .entry)) number e ⌝ }
     {
         if 2 < number {
-            return self.answer(1);
+            return self.answer(NOWHERE);
         }
-        let t = self.turn_at(settings[0], e);
-        self.turn(sla, lens, status, counts, settings, mem, t)
+        let t = self.turn_at(e);
+        self.turn(sla, lens, status, counts, mem, t)
     }
 
     // A step of a channel that is in range, over its tables and bytes: what `Channel::serve` does, without a copy of a table.
@@ -113,27 +70,23 @@ impl Head {
         lens: &'a mut [u8; 65],
         status: &'a mut [u8; 64],
         counts: &'a mut [u8; 64],
-        settings: &'a mut [u8; 6],
         number: u8,
         mem: &'a mut [u8],
         op: Op,
     ) -> Headed
-        requires { ⌜ Accepted (joined self (now sla) (now lens) (now status) (now counts) (now settings)) (now mem) ⌝ }
-        ensures { λ r. ⌜ Writes (λ c. servedBy c (now (mem .entry)) number op) self
-            (now (sla .entry)) (now (lens .entry)) (now (status .entry)) (now (counts .entry)) (now (settings .entry))
-            r (now (sla .exit)) (now (lens .exit)) (now (status .exit)) (now (counts .exit)) (now (settings .exit))
-            × (now (mem .exit) ≡ servedStore (joined self (now (sla .entry)) (now (lens .entry)) (now (status .entry)) (now (counts .entry)) (now (settings .entry))) (now (mem .entry)) number op) ⌝ }
+        requires { ⌜ Accepted (lent self sla lens status counts) (now mem) ⌝ }
+        ensures { λ r. ⌜ leaves r sla lens status counts mem ≡ servedBy (found self sla lens status counts) (now (mem .entry)) number op ⌝ }
     {
         match op {
             Op::Write(a, v) => {
                 let place = rules::place_of(number, a);
-                self.write_at(sla, lens, status, counts, settings, mem, place, v)
+                self.write(sla, lens, status, counts, mem, place, v)
             }
             Op::Read(a) => {
                 let place = rules::place_of(number, a);
-                self.read_at(sla, lens, status, counts, settings, mem, place)
+                self.read(sla, lens, status, counts, mem, place)
             }
-            Op::Wire(e) => self.event_at(sla, lens, status, counts, settings, mem, number, e),
+            Op::Wire(e) => self.event_at(sla, lens, status, counts, mem, number, e),
         }
     }
 }
@@ -142,44 +95,42 @@ impl Channel {
     // A step of a channel that is in range.
     fn serve(self, number: u8, mem: &mut [u8], op: Op) -> Stepped
         requires { ⌜ Accepted self (now mem) ⌝ }
-        ensures { λ r. ⌜ (r ≡ servedBy self (now (mem .entry)) number op) × (now (mem .exit) ≡ servedStore self (now (mem .entry)) number op) ⌝ }
+        ensures { λ r. ⌜ keeping (now (mem .exit)) r ≡ servedBy self (now (mem .entry)) number op ⌝ }
     {
         let mut sla = self.slatable;
         let mut lens = self.tranconfig;
         let mut status = self.status;
         let mut counts = self.bytecount;
-        let mut settings = self.settings;
-        let h = self.head();
+        let h = self.head;
         let r = h.serve_lent(
             &mut sla,
             &mut lens,
             &mut status,
             &mut counts,
-            &mut settings,
             number,
             mem,
             op,
         );
-        let g = r.head;
+        let head = r.head;
         let answer = r.answer;
         Stepped {
-            channel: g.join(sla, lens, status, counts, settings),
+            channel: Channel {
+                slatable: sla,
+                head,
+                status,
+                bytecount: counts,
+                tranconfig: lens,
+            },
             answer,
         }
-    }
-
-    fn range_number(self, len: usize) -> u8
-        ensures { λ r. ⌜ r ≡ rangeNumber len (inRange self) ⌝ }
-    {
-        let ok = self.in_range();
-        range_refusal(len, ok)
     }
 
     // One step of the channel with this number, at any record and any memory.
     pub fn step(self, number: u8, mem: &mut [u8], op: Op) -> Stepped
         ensures { λ r. ⌜ (r ≡ stepOf self (now (mem .entry)) number op) × (now (mem .exit) ≡ bytesAfter self (now (mem .entry)) number op) ⌝ }
     {
-        let n = self.range_number(mem.len());
+        let ok = self.in_range();
+        let n = range_number(mem.len(), ok);
         if n != 0 {
             return self.answer(n);
         }

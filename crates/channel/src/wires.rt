@@ -3,17 +3,28 @@ ghost use mathlib.Core.Bool.{true};
 ghost use mathlib.Core.Path.{_≡_};
 ghost use Prim.Native.Nat.{_+_, _<_, _≤_};
 ghost use lib.ListN.{length, set, getD};
-ghost use Rattle.rules.specs.Registers.{bitOf};
-ghost use Rattle.rules.specs.Tables.{startOf, Running};
-ghost use Rattle.sequence.specs.Wires.{Exists, Ready, haltedOf, nextOf, restOf, endingOf, againBy};
-ghost use Rattle.sequence.specs.Walk.{idle, nackFlags, errorNoted, lateFlags, lateWalk, faultFlags};
-ghost use Rattle.channel.specs.Head.{joined, told, headWalk, headFlags, inPhase, endedSo, Writes, Turns, Counts, Starts, Begins, Walks, Sends};
+ghost use Rattle.rules.specs.Numbers.{bufferSize};
+ghost use Rattle.rules.specs.Tables.{startOf};
+ghost use Rattle.rules.specs.Facts.{Running};
+ghost use Rattle.sequence.specs.Facts.{Exists, Ready};
+ghost use Rattle.channel.specs.State.{plain};
+ghost use Rattle.channel.specs.Lent.{lent, found, left, leaves};
+ghost use Rattle.channel.specs.Head.{haltOf, inPhase, idled, endedBy, frameEnded, stopped, clocked, noted, failed, lateBy, faulted};
 ghost use Rattle.channel.specs.Range.{inRange};
-ghost use Rattle.channel.specs.Wires.{movedTo, onward, finished, startedBy, started, beganBy, begun, sendOn, ackAddress, ackSending, receiveOn, received, failedBy, nacked};
-ghost use Rattle.channel.specs.Wires.{turned, turnStore, beaten, triggered, cleared, haltOf, lengthOf, Counting, Meets};
+ghost use Rattle.channel.specs.Wires.{sentTo, startedBy, started, cleared, beganBy, begun, movedTo, onward, finished, byteSent, sendOn, ackWrite, ackAddress, ackSending};
+ghost use Rattle.channel.specs.Wires.{receiveOn, received, failedBy, nacked, turned, beaten, triggered};
+ghost use Rattle.channel.specs.Facts.{Counting, Meets};
 use crate::state::Head;
 use crate::state::Headed;
+use rules::ADDRESS_REFUSED;
+use rules::DATA_REFUSED;
+use rules::DONE;
+use rules::DONE_STATUS;
+use rules::NOT_AWAITED;
+use rules::NOT_BEGUN;
+use rules::PAST_BUFFER;
 use rules::Phase;
+use rules::UNDERWAY;
 use sequence::Action;
 use sequence::Beat;
 use sequence::Beginning;
@@ -35,7 +46,7 @@ fn count_one(counts: &mut [u8; 64], n: usize)
 }
 
 impl Head {
-    // ---- small changes
+    // ---- what needs no table
 
     fn to_phase(self, phase: Phase) -> Head
         ensures { λ r. ⌜ r ≡ inPhase self phase ⌝ }
@@ -45,163 +56,134 @@ impl Head {
     }
 
     fn to_idle(self) -> Head
-        ensures { λ r. ⌜ r ≡ headWalk self idle ⌝ }
+        ensures { λ r. ⌜ r ≡ idled self ⌝ }
     {
         self.with_walk(sequence::idle_walk())
     }
 
     fn halts(self) -> bool
-        ensures { λ r. ⌜ r ≡ haltedOf (self .walk .fe) (self .walk .sto) ⌝ }
+        ensures { λ r. ⌜ r ≡ haltOf self ⌝ }
     {
         let w = self.walk;
         sequence::halted(w.fe, w.sto)
     }
 
-    // ---- the frame's end
-
-    pub(crate) fn end_by(self, framecnt: u8, e: Ending) -> Head
-        ensures { λ r. ⌜ r ≡ endedSo self framecnt e ⌝ }
-    {
-        let f = sequence::end_flags(self.flags, self.regs.te, framecnt, e);
-        self.with_flags(f).with_walk(sequence::end_walk(e))
-    }
-
-    fn end_frame(self, framecnt: u8) -> Head
-        ensures { λ r. ⌜ r ≡ endedSo self framecnt (endingOf (self .walk .fe) (self .walk .error) (self .walk .sto) (self .walk .seq) (restOf (self .regs .te) framecnt (self .walk .ended))) ⌝ }
-    {
-        let w = self.walk;
-        let rest = sequence::rest(self.regs.te, framecnt, w.ended);
-        let e = sequence::ends(w.fe, w.error, w.sto, w.seq, rest);
-        self.end_by(framecnt, e)
-    }
-
-    // ---- the walk
-
     fn stop(self, a: Action) -> Headed
-        ensures { λ r. ⌜ r ≡ told (inPhase self Phase.Stopping) 0 0 a ⌝ }
+        ensures { λ r. ⌜ r ≡ stopped self a ⌝ }
     {
         self.to_phase(Phase::Stopping).act(a)
     }
 
-    fn send(self, status: &mut [u8; 64], n: usize, a: Action) -> Headed
+    fn clock(self, n: usize) -> Headed
         requires { ⌜ n < 64 ⌝ }
-        ensures { λ r. ⌜ (r ≡ told (inPhase self (Phase.Address n)) 0 0 a) × (now (status .exit) ≡ set (now (status .entry)) n 0x01) ⌝ }
+        ensures { λ r. ⌜ r ≡ clocked self n ⌝ }
     {
-        status[n] = 0x01;
-        self.to_phase(Phase::Address(n as u8)).act(a)
+        self.to_phase(Phase::Receiving(n as u8)).act(Action::C)
     }
 
-    fn send_again<'a>(
-        self,
-        sla: &'a [u8; 64],
-        status: &'a mut [u8; 64],
-        t: Tail,
-        n: usize,
-    ) -> Headed
-        requires { ⌜ n < 64 ⌝ }
-        ensures { λ r. ⌜ (r ≡ told (inPhase self (Phase.Address n)) 0 0 (againBy t (getD (now (sla .entry)) n 0))) × (now (status .exit) ≡ set (now (status .entry)) n 0x01) ⌝ }
+    fn note(self, read: bool) -> Head
+        ensures { λ r. ⌜ r ≡ noted self read ⌝ }
     {
-        let a = sequence::again_by(t, sla[n]);
-        self.send(status, n, a)
+        let f = sequence::nack_flags(self.flags, read);
+        self.with_flags(f)
     }
 
-    // Either a stop or the transaction to send.
-    fn move_to<'a>(self, sla: &'a [u8; 64], status: &'a mut [u8; 64], t: Tail, m: Move) -> Headed
-        requires { ⌜ Exists m ⌝ }
-        ensures { λ r. ⌜ Sends (λ c. movedTo c t m) self (now (sla .entry)) (now (status .entry)) r (now (status .exit)) ⌝ }
+    fn fail(self) -> Headed
+        ensures { λ r. ⌜ r ≡ failed self ⌝ }
     {
-        let Move::Send(n) = m else {
-            return self.stop(sequence::stop_by(t));
-        };
-        self.send_again(sla, status, t, n)
+        let w = self.walk;
+        self.with_walk(sequence::note_error(w)).act(Action::P)
     }
 
-    fn onward<'a>(
-        self,
-        sla: &'a [u8; 64],
-        lens: &'a [u8; 65],
-        status: &'a mut [u8; 64],
-        n: usize,
-        t: Tail,
-    ) -> Headed
-        requires { ⌜ Running (now lens) n ⌝ }
-        ensures { λ r. ⌜ Walks (λ c. onward c n t) self (now (sla .entry)) (now (lens .entry)) (now (status .entry)) r (now (status .exit)) ⌝ }
+    fn be_late(self) -> Headed
+        ensures { λ r. ⌜ r ≡ plain (lateBy self) ⌝ }
     {
-        let halt = self.halts();
-        let to = sequence::reach(halt, n, sla, lens);
-        let count = rules::byte(lens[0]);
-        let m = sequence::next_move(halt, to, count);
-        rules::mark(status, n + 1, to);
-        self.move_to(sla, status, t, m)
+        let w = self.walk;
+        let femsk = rules::bit(self.regs.intmsk, 0x01);
+        let f = sequence::late_flags(self.flags, femsk);
+        self.with_state(f, sequence::late_walk(w, femsk))
+            .answer(DONE)
     }
 
-    fn finish<'a>(
-        self,
-        sla: &'a [u8; 64],
-        lens: &'a [u8; 65],
-        status: &'a mut [u8; 64],
-        n: usize,
-        t: Tail,
-    ) -> Headed
-        requires { ⌜ Running (now lens) n ⌝ }
-        ensures { λ r. ⌜ Walks (λ c. finished c n t) self (now (sla .entry)) (now (lens .entry)) (now (status .entry)) r (now (status .exit)) ⌝ }
+    fn fault(self, f: Fault) -> Headed
+        ensures { λ r. ⌜ r ≡ plain (faulted self f) ⌝ }
     {
-        status[n] = 0x02;
-        self.onward(sla, lens, status, n, t)
+        let g = sequence::fault_flags(self.flags, f);
+        self.with_state(g, sequence::idle_walk()).answer(DONE)
+    }
+
+    // ---- the frame's end
+
+    pub(crate) fn end_by(self, e: Ending) -> Headed
+        ensures { λ r. ⌜ r ≡ plain (endedBy self e) ⌝ }
+    {
+        let f = sequence::end_flags(self.flags, self.regs.te, self.settings.framecnt, e);
+        self.with_state(f, sequence::end_walk(e)).answer(DONE)
+    }
+
+    fn end_frame(self) -> Headed
+        ensures { λ r. ⌜ r ≡ plain (frameEnded self) ⌝ }
+    {
+        let w = self.walk;
+        let rest = sequence::rest(self.regs.te, self.settings.framecnt, w.ended);
+        let e = sequence::ends(w.fe, w.error, w.sto, w.seq, rest);
+        self.end_by(e)
     }
 
     // ---- a frame begins
 
-    fn start_by<'a>(
-        self,
-        sla: &'a [u8; 64],
-        status: &'a mut [u8; 64],
-        settings: &'a [u8; 6],
-        m: Move,
-    ) -> Headed
-        requires { ⌜ Exists m ⌝ }
-        ensures { λ r. ⌜ Begins (λ c. startedBy c m) self (now (sla .entry)) (now (status .entry)) (now (settings .entry)) r (now (status .exit)) ⌝ }
-    {
-        let Move::Send(n) = m else {
-            return self.end_frame(settings[0]).answer(0);
-        };
-        self.send(status, n, Action::S(sla[n]))
-    }
-
-    fn start<'a>(
-        self,
-        sla: &'a [u8; 64],
-        lens: &'a [u8; 65],
-        status: &'a mut [u8; 64],
-        settings: &'a [u8; 6],
-    ) -> Headed
-        requires { ⌜ getD (now lens) 0 0 ≤ 64 ⌝ }
-        ensures { λ r. ⌜ Starts started self (now (sla .entry)) (now (lens .entry)) (now (status .entry)) (now (settings .entry)) r (now (status .exit)) ⌝ }
-    {
-        let count = rules::byte(lens[0]);
-        let to = rules::first_sent(sla, lens, 0, count);
-        let m = sequence::next_move(false, to, count);
-        rules::mark(status, 0, to);
-        self.start_by(sla, status, settings, m)
-    }
-
-    // All STATUS and BYTECOUNT become 0, and the frame starts.
-    fn start_clear<'a>(
+    fn send<'a>(
         self,
         sla: &'a [u8; 64],
         lens: &'a [u8; 65],
         status: &'a mut [u8; 64],
         counts: &'a mut [u8; 64],
-        settings: &'a [u8; 6],
+        n: usize,
+        a: Action,
+    ) -> Headed
+        requires { ⌜ n < 64 ⌝ }
+        ensures { λ r. ⌜ left r sla lens status counts ≡ sentTo (found self sla lens status counts) n a ⌝ }
+    {
+        status[n] = UNDERWAY;
+        self.to_phase(Phase::Address(n as u8)).act(a)
+    }
+
+    fn start_by<'a>(
+        self,
+        sla: &'a [u8; 64],
+        lens: &'a [u8; 65],
+        status: &'a mut [u8; 64],
+        counts: &'a mut [u8; 64],
+        m: Move,
+    ) -> Headed
+        requires { ⌜ Exists m ⌝ }
+        ensures { λ r. ⌜ left r sla lens status counts ≡ startedBy (found self sla lens status counts) m ⌝ }
+    {
+        let Move::Send(n) = m else {
+            return self.end_frame();
+        };
+        let a = Action::S(sla[n]);
+        self.send(sla, lens, status, counts, n, a)
+    }
+
+    // All STATUS and BYTECOUNT become 0, and the frame starts.
+    fn start<'a>(
+        self,
+        sla: &'a [u8; 64],
+        lens: &'a [u8; 65],
+        status: &'a mut [u8; 64],
+        counts: &'a mut [u8; 64],
     ) -> Headed
         requires { ⌜ getD (now lens) 0 0 ≤ 64 ⌝ }
-        ensures { λ r. ⌜ Turns (λ c. started (cleared c)) self
-            (now (sla .entry)) (now (lens .entry)) (now (status .entry)) (now (counts .entry)) (now (settings .entry))
-            r (now (status .exit)) (now (counts .exit)) ⌝ }
+        ensures { λ r. ⌜ left r sla lens status counts ≡ started (cleared (found self sla lens status counts)) ⌝ }
     {
-        *status = [0; 64];
+        *status = [NOT_BEGUN; 64];
         *counts = [0; 64];
-        self.start(sla, lens, status, settings)
+        let count = rules::byte(lens[0]);
+        let to = rules::first_sent(sla, lens, 0, count);
+        let m = sequence::next_move(false, to, count);
+        rules::mark(status, 0, to);
+        self.start_by(sla, lens, status, counts, m)
     }
 
     fn begin_by<'a>(
@@ -210,18 +192,15 @@ impl Head {
         lens: &'a [u8; 65],
         status: &'a mut [u8; 64],
         counts: &'a mut [u8; 64],
-        settings: &'a [u8; 6],
         b: Beginning,
     ) -> Headed
         requires { ⌜ getD (now lens) 0 0 ≤ 64 ⌝ }
-        ensures { λ r. ⌜ Turns (λ c. beganBy c b) self
-            (now (sla .entry)) (now (lens .entry)) (now (status .entry)) (now (counts .entry)) (now (settings .entry))
-            r (now (status .exit)) (now (counts .exit)) ⌝ }
+        ensures { λ r. ⌜ left r sla lens status counts ≡ beganBy (found self sla lens status counts) b ⌝ }
     {
         match b {
-            Beginning::Empty => self.to_idle().answer(0),
-            Beginning::Unfit => self.to_idle().answer(5),
-            Beginning::Fit => self.start_clear(sla, lens, status, counts, settings),
+            Beginning::Empty => self.to_idle().answer(DONE),
+            Beginning::Unfit => self.to_idle().answer(PAST_BUFFER),
+            Beginning::Fit => self.start(sla, lens, status, counts),
         }
     }
 
@@ -231,22 +210,102 @@ impl Head {
         lens: &'a [u8; 65],
         status: &'a mut [u8; 64],
         counts: &'a mut [u8; 64],
-        settings: &'a [u8; 6],
     ) -> Headed
         requires { ⌜ getD (now lens) 0 0 ≤ 64 ⌝ }
-        ensures { λ r. ⌜ Turns begun self (now (sla .entry)) (now (lens .entry)) (now (status .entry)) (now (counts .entry)) (now (settings .entry)) r (now (status .exit)) (now (counts .exit)) ⌝ }
+        ensures { λ r. ⌜ left r sla lens status counts ≡ begun (found self sla lens status counts) ⌝ }
     {
         let count = rules::byte(lens[0]);
-        let fit = rules::fits(lens, count);
+        let fit = rules::fits(lens);
         let b = sequence::begins(count, fit);
-        self.begin_by(sla, lens, status, counts, settings, b)
+        self.begin_by(sla, lens, status, counts, b)
+    }
+
+    // The same for an arm of a match: see `anew`.
+    pub(crate) fn begin_anew<'a>(
+        self,
+        sla: &'a [u8; 64],
+        lens: &'a [u8; 65],
+        status: &'a mut [u8; 64],
+        counts: &'a mut [u8; 64],
+    ) -> Headed
+        requires { ⌜ getD (now lens) 0 0 ≤ 64 ⌝ }
+        ensures { λ r. ⌜ left r sla lens status counts ≡ begun (found self sla lens status counts) ⌝ }
+    {
+        self.begin(sla, lens, status, counts).anew()
+    }
+
+    // ---- behind a transaction
+
+    // Either a stop or the transaction to send.
+    fn move_to<'a>(
+        self,
+        sla: &'a [u8; 64],
+        lens: &'a [u8; 65],
+        status: &'a mut [u8; 64],
+        counts: &'a mut [u8; 64],
+        t: Tail,
+        m: Move,
+    ) -> Headed
+        requires { ⌜ Exists m ⌝ }
+        ensures { λ r. ⌜ left r sla lens status counts ≡ movedTo (found self sla lens status counts) t m ⌝ }
+    {
+        let Move::Send(n) = m else {
+            return self.stop(sequence::stop_by(t));
+        };
+        let a = sequence::again_by(t, sla[n]);
+        self.send(sla, lens, status, counts, n, a)
+    }
+
+    fn onward<'a>(
+        self,
+        sla: &'a [u8; 64],
+        lens: &'a [u8; 65],
+        status: &'a mut [u8; 64],
+        counts: &'a mut [u8; 64],
+        n: usize,
+        t: Tail,
+    ) -> Headed
+        requires { ⌜ Running (now lens) n ⌝ }
+        ensures { λ r. ⌜ left r sla lens status counts ≡ onward (found self sla lens status counts) n t ⌝ }
+    {
+        let halt = self.halts();
+        let to = sequence::reach(halt, n, sla, lens);
+        let count = rules::byte(lens[0]);
+        let m = sequence::next_move(halt, to, count);
+        rules::mark(status, n + 1, to);
+        self.move_to(sla, lens, status, counts, t, m)
+    }
+
+    fn finish<'a>(
+        self,
+        sla: &'a [u8; 64],
+        lens: &'a [u8; 65],
+        status: &'a mut [u8; 64],
+        counts: &'a mut [u8; 64],
+        n: usize,
+        t: Tail,
+    ) -> Headed
+        requires { ⌜ Running (now lens) n ⌝ }
+        ensures { λ r. ⌜ left r sla lens status counts ≡ finished (found self sla lens status counts) n t ⌝ }
+    {
+        status[n] = DONE_STATUS;
+        self.onward(sla, lens, status, counts, n, t)
     }
 
     // ---- ACK
 
-    fn send_byte<'a>(self, lens: &'a [u8; 65], mem: &'a [u8], n: usize, k: usize) -> Headed
+    fn send_byte<'a>(
+        self,
+        sla: &'a [u8; 64],
+        lens: &'a [u8; 65],
+        status: &'a mut [u8; 64],
+        counts: &'a mut [u8; 64],
+        mem: &'a [u8],
+        n: usize,
+        k: usize,
+    ) -> Headed
         requires { ⌜ (n < 64) × (startOf (now lens) n + k < length (now mem)) ⌝ }
-        ensures { λ r. ⌜ r ≡ told (inPhase self (Phase.Sending n)) 0 0 (Action.D (getD (now (mem .entry)) (startOf (now (lens .entry)) n + k) 0)) ⌝ }
+        ensures { λ r. ⌜ left r sla lens status counts ≡ byteSent (found self sla lens status counts) (now (mem .entry)) n k ⌝ }
     {
         let i = rules::start_of(lens, n) + k;
         let b = mem[i];
@@ -258,26 +317,20 @@ impl Head {
         sla: &'a [u8; 64],
         lens: &'a [u8; 65],
         status: &'a mut [u8; 64],
+        counts: &'a mut [u8; 64],
         mem: &'a [u8],
         n: usize,
         k: usize,
         x: Next,
     ) -> Headed
-        requires { ⌜ Running (now lens) n × Ready x k (getD (now lens) (n + 1) 0) × (length (now mem) ≡ 4352) ⌝ }
-        ensures { λ r. ⌜ Walks (λ c. sendOn c (now (mem .entry)) n k x) self (now (sla .entry)) (now (lens .entry)) (now (status .entry)) r (now (status .exit)) ⌝ }
+        requires { ⌜ Running (now lens) n × Ready x k (getD (now lens) (n + 1) 0) × (length (now mem) ≡ bufferSize) ⌝ }
+        ensures { λ r. ⌜ left r sla lens status counts ≡ sendOn (found self sla lens status counts) (now (mem .entry)) n k x ⌝ }
     {
         match x {
             Next::Cut => self.stop(Action::P),
-            Next::More => self.send_byte(lens, mem, n, k),
-            Next::Over => self.finish(sla, lens, status, n, Tail::Plain),
+            Next::More => self.send_byte(sla, lens, status, counts, mem, n, k),
+            Next::Over => self.finish(sla, lens, status, counts, n, Tail::Plain),
         }
-    }
-
-    fn clock(self, n: usize) -> Headed
-        requires { ⌜ n < 64 ⌝ }
-        ensures { λ r. ⌜ r ≡ told (inPhase self (Phase.Receiving n)) 0 0 Action.C ⌝ }
-    {
-        self.to_phase(Phase::Receiving(n as u8)).act(Action::C)
     }
 
     fn ack_write<'a>(
@@ -285,15 +338,16 @@ impl Head {
         sla: &'a [u8; 64],
         lens: &'a [u8; 65],
         status: &'a mut [u8; 64],
+        counts: &'a mut [u8; 64],
         mem: &'a [u8],
         n: usize,
     ) -> Headed
-        requires { ⌜ Running (now lens) n × (length (now mem) ≡ 4352) ⌝ }
-        ensures { λ r. ⌜ Walks (λ c. sendOn c (now (mem .entry)) n 0 (nextOf (haltOf c) 0 (lengthOf c n))) self (now (sla .entry)) (now (lens .entry)) (now (status .entry)) r (now (status .exit)) ⌝ }
+        requires { ⌜ Running (now lens) n × (length (now mem) ≡ bufferSize) ⌝ }
+        ensures { λ r. ⌜ left r sla lens status counts ≡ ackWrite (found self sla lens status counts) (now (mem .entry)) n ⌝ }
     {
         let len = rules::byte(lens[n + 1]);
         let x = sequence::next_byte(self.halts(), 0, len);
-        self.send_on(sla, lens, status, mem, n, 0, x)
+        self.send_on(sla, lens, status, counts, mem, n, 0, x)
     }
 
     fn ack_address<'a>(
@@ -301,16 +355,17 @@ impl Head {
         sla: &'a [u8; 64],
         lens: &'a [u8; 65],
         status: &'a mut [u8; 64],
+        counts: &'a mut [u8; 64],
         mem: &'a [u8],
         n: usize,
     ) -> Headed
-        requires { ⌜ Running (now lens) n × (length (now mem) ≡ 4352) ⌝ }
-        ensures { λ r. ⌜ Walks (λ c. ackAddress c (now (mem .entry)) n) self (now (sla .entry)) (now (lens .entry)) (now (status .entry)) r (now (status .exit)) ⌝ }
+        requires { ⌜ Running (now lens) n × (length (now mem) ≡ bufferSize) ⌝ }
+        ensures { λ r. ⌜ left r sla lens status counts ≡ ackAddress (found self sla lens status counts) (now (mem .entry)) n ⌝ }
     {
         if rules::reads(sla[n]) {
             self.clock(n)
         } else {
-            self.ack_write(sla, lens, status, mem, n)
+            self.ack_write(sla, lens, status, counts, mem, n)
         }
     }
 
@@ -323,16 +378,14 @@ impl Head {
         mem: &'a [u8],
         n: usize,
     ) -> Headed
-        requires { ⌜ Counting (now lens) (now counts) n × (length (now mem) ≡ 4352) ⌝ }
-        ensures { λ r. ⌜ Counts (λ c. ackSending c (now (mem .entry)) n) self
-            (now (sla .entry)) (now (lens .entry)) (now (status .entry)) (now (counts .entry))
-            r (now (status .exit)) (now (counts .exit)) ⌝ }
+        requires { ⌜ Counting (now lens) (now counts) n × (length (now mem) ≡ bufferSize) ⌝ }
+        ensures { λ r. ⌜ left r sla lens status counts ≡ ackSending (found self sla lens status counts) (now (mem .entry)) n ⌝ }
     {
         let len = rules::byte(lens[n + 1]);
         let k = rules::byte(counts[n]) + 1;
         let x = sequence::next_byte(self.halts(), k, len);
         count_one(counts, n);
-        self.send_on(sla, lens, status, mem, n, k, x)
+        self.send_on(sla, lens, status, counts, mem, n, k, x)
     }
 
     // ---- BYTE
@@ -342,35 +395,18 @@ impl Head {
         sla: &'a [u8; 64],
         lens: &'a [u8; 65],
         status: &'a mut [u8; 64],
+        counts: &'a mut [u8; 64],
         n: usize,
         x: Next,
     ) -> Headed
         requires { ⌜ Running (now lens) n ⌝ }
-        ensures { λ r. ⌜ Walks (λ c. receiveOn c n x) self (now (sla .entry)) (now (lens .entry)) (now (status .entry)) r (now (status .exit)) ⌝ }
+        ensures { λ r. ⌜ left r sla lens status counts ≡ receiveOn (found self sla lens status counts) n x ⌝ }
     {
         match x {
             Next::Cut => self.stop(Action::Np),
             Next::More => self.act(Action::A),
-            Next::Over => self.finish(sla, lens, status, n, Tail::Nacked),
+            Next::Over => self.finish(sla, lens, status, counts, n, Tail::Nacked),
         }
-    }
-
-    fn take<'a>(
-        self,
-        sla: &'a [u8; 64],
-        lens: &'a [u8; 65],
-        status: &'a mut [u8; 64],
-        counts: &'a mut [u8; 64],
-        n: usize,
-    ) -> Headed
-        requires { ⌜ Counting (now lens) (now counts) n ⌝ }
-        ensures { λ r. ⌜ Counts (λ c. received c n) self (now (sla .entry)) (now (lens .entry)) (now (status .entry)) (now (counts .entry)) r (now (status .exit)) (now (counts .exit)) ⌝ }
-    {
-        let len = rules::byte(lens[n + 1]);
-        let k = rules::byte(counts[n]) + 1;
-        let x = sequence::next_byte(self.halts(), k, len);
-        count_one(counts, n);
-        self.receive_on(sla, lens, status, n, x)
     }
 
     fn receive<'a>(
@@ -383,46 +419,34 @@ impl Head {
         n: usize,
         b: u8,
     ) -> Headed
-        requires { ⌜ Counting (now lens) (now counts) n × (length (now mem) ≡ 4352) ⌝ }
-        ensures { λ r. ⌜ Counts (λ c. received c n) self
-            (now (sla .entry)) (now (lens .entry)) (now (status .entry)) (now (counts .entry))
-            r (now (status .exit)) (now (counts .exit))
-            × (now (mem .exit) ≡ set (now (mem .entry)) (startOf (now (lens .entry)) n + getD (now (counts .entry)) n 0) b) ⌝ }
+        requires { ⌜ Counting (now lens) (now counts) n × (length (now mem) ≡ bufferSize) ⌝ }
+        ensures { λ r. ⌜ leaves r sla lens status counts mem ≡ received (found self sla lens status counts) (now (mem .entry)) n b ⌝ }
     {
-        let i = rules::start_of(lens, n) + rules::byte(counts[n]);
+        let had = rules::byte(counts[n]);
+        let i = rules::start_of(lens, n) + had;
         mem[i] = b;
-        self.take(sla, lens, status, counts, n)
+        let len = rules::byte(lens[n + 1]);
+        let x = sequence::next_byte(self.halts(), had + 1, len);
+        count_one(counts, n);
+        self.receive_on(sla, lens, status, counts, n, x)
     }
 
     // ---- NACK
-
-    fn note(self, read: bool) -> Head
-        ensures { λ r. ⌜ r ≡ headFlags self (nackFlags (self .flags) read) ⌝ }
-    {
-        let f = sequence::nack_flags(self.flags, read);
-        self.with_flags(f)
-    }
-
-    fn fail(self) -> Headed
-        ensures { λ r. ⌜ r ≡ told (headWalk self (errorNoted (self .walk))) 0 0 Action.P ⌝ }
-    {
-        let w = self.walk;
-        self.with_walk(sequence::note_error(w)).act(Action::P)
-    }
 
     fn fail_by<'a>(
         self,
         sla: &'a [u8; 64],
         lens: &'a [u8; 65],
         status: &'a mut [u8; 64],
+        counts: &'a mut [u8; 64],
         n: usize,
         masked: bool,
     ) -> Headed
         requires { ⌜ Running (now lens) n ⌝ }
-        ensures { λ r. ⌜ Walks (λ c. failedBy c n masked) self (now (sla .entry)) (now (lens .entry)) (now (status .entry)) r (now (status .exit)) ⌝ }
+        ensures { λ r. ⌜ left r sla lens status counts ≡ failedBy (found self sla lens status counts) n masked ⌝ }
     {
         if masked {
-            self.onward(sla, lens, status, n, Tail::Plain)
+            self.onward(sla, lens, status, counts, n, Tail::Plain)
         } else {
             self.fail()
         }
@@ -433,34 +457,18 @@ impl Head {
         sla: &'a [u8; 64],
         lens: &'a [u8; 65],
         status: &'a mut [u8; 64],
+        counts: &'a mut [u8; 64],
         n: usize,
         v: u8,
     ) -> Headed
         requires { ⌜ Running (now lens) n ⌝ }
-        ensures { λ r. ⌜ Walks (λ c. nacked c n v) self (now (sla .entry)) (now (lens .entry)) (now (status .entry)) r (now (status .exit)) ⌝ }
+        ensures { λ r. ⌜ left r sla lens status counts ≡ nacked (found self sla lens status counts) n v ⌝ }
     {
         let read = rules::reads(sla[n]);
         let masked = sequence::masked(self.regs.intmsk, read);
         status[n] = v;
-        self.note(read).fail_by(sla, lens, status, n, masked)
-    }
-
-    // ---- TICK and trigger that are late, and faults
-
-    fn be_late(self) -> Head
-        ensures { λ r. ⌜ r ≡ headWalk (headFlags self (lateFlags (self .flags) (bitOf (self .regs .intmsk) 0x01))) (lateWalk (self .walk) (bitOf (self .regs .intmsk) 0x01)) ⌝ }
-    {
-        let w = self.walk;
-        let femsk = rules::bit(self.regs.intmsk, 0x01);
-        let f = sequence::late_flags(self.flags, femsk);
-        self.with_flags(f).with_walk(sequence::late_walk(w, femsk))
-    }
-
-    fn fault(self, f: Fault) -> Head
-        ensures { λ r. ⌜ r ≡ headWalk (headFlags self (faultFlags (self .flags) f)) idle ⌝ }
-    {
-        let g = sequence::fault_flags(self.flags, f);
-        self.with_flags(g).to_idle()
+        self.note(read)
+            .fail_by(sla, lens, status, counts, n, masked)
     }
 
     // ---- an event, and a trigger edge
@@ -471,27 +479,23 @@ impl Head {
         lens: &'a [u8; 65],
         status: &'a mut [u8; 64],
         counts: &'a mut [u8; 64],
-        settings: &'a [u8; 6],
         mem: &'a mut [u8],
         t: Turn,
     ) -> Headed
-        requires { ⌜ Meets (joined self (now sla) (now lens) (now status) (now counts) (now settings)) t × (length (now mem) ≡ 4352) ⌝ }
-        ensures { λ r. ⌜ Turns (λ c. turned c (now (mem .entry)) t) self
-            (now (sla .entry)) (now (lens .entry)) (now (status .entry)) (now (counts .entry)) (now (settings .entry))
-            r (now (status .exit)) (now (counts .exit))
-            × (now (mem .exit) ≡ turnStore (joined self (now (sla .entry)) (now (lens .entry)) (now (status .entry)) (now (counts .entry)) (now (settings .entry))) (now (mem .entry)) t) ⌝ }
+        requires { ⌜ Meets (lent self sla lens status counts) t × (length (now mem) ≡ bufferSize) ⌝ }
+        ensures { λ r. ⌜ leaves r sla lens status counts mem ≡ turned (found self sla lens status counts) (now (mem .entry)) t ⌝ }
     {
         match t {
-            Turn::Unawaited => self.answer(7),
-            Turn::AckAddress(n) => self.ack_address(sla, lens, status, mem, n),
+            Turn::Unawaited => self.answer(NOT_AWAITED),
+            Turn::AckAddress(n) => self.ack_address(sla, lens, status, counts, mem, n),
             Turn::AckSending(n) => self.ack_sending(sla, lens, status, counts, mem, n),
-            Turn::NackAddress(n) => self.nack(sla, lens, status, n, 0x04),
-            Turn::NackSending(n) => self.nack(sla, lens, status, n, 0x08),
             Turn::Receive(n, b) => self.receive(sla, lens, status, counts, mem, n, b),
-            Turn::Begin => self.begin(sla, lens, status, counts, settings).anew(),
-            Turn::Late => self.be_late().answer(0),
-            Turn::End => self.end_frame(settings[0]).answer(0),
-            Turn::Fault(f) => self.fault(f).answer(0),
+            Turn::NackAddress(n) => self.nack(sla, lens, status, counts, n, ADDRESS_REFUSED),
+            Turn::NackSending(n) => self.nack(sla, lens, status, counts, n, DATA_REFUSED),
+            Turn::Begin => self.begin_anew(sla, lens, status, counts),
+            Turn::Late => self.be_late(),
+            Turn::End => self.end_frame(),
+            Turn::Fault(f) => self.fault(f),
         }
     }
 
@@ -501,18 +505,15 @@ impl Head {
         lens: &'a [u8; 65],
         status: &'a mut [u8; 64],
         counts: &'a mut [u8; 64],
-        settings: &'a [u8; 6],
         b: Beat,
     ) -> Headed
         requires { ⌜ getD (now lens) 0 0 ≤ 64 ⌝ }
-        ensures { λ r. ⌜ Turns (λ c. beaten c b) self
-            (now (sla .entry)) (now (lens .entry)) (now (status .entry)) (now (counts .entry)) (now (settings .entry))
-            r (now (status .exit)) (now (counts .exit)) ⌝ }
+        ensures { λ r. ⌜ left r sla lens status counts ≡ beaten (found self sla lens status counts) b ⌝ }
     {
         match b {
-            Beat::Quiet => self.answer(0),
-            Beat::Begin => self.begin(sla, lens, status, counts, settings),
-            Beat::Late => self.be_late().answer(0),
+            Beat::Quiet => self.answer(DONE),
+            Beat::Begin => self.begin(sla, lens, status, counts),
+            Beat::Late => self.be_late(),
         }
     }
 
@@ -523,17 +524,14 @@ impl Head {
         lens: &'a mut [u8; 65],
         status: &'a mut [u8; 64],
         counts: &'a mut [u8; 64],
-        settings: &'a mut [u8; 6],
         edge: Edge,
     ) -> Headed
-        requires { ⌜ inRange (joined self (now sla) (now lens) (now status) (now counts) (now settings)) ≡ true ⌝ }
-        ensures { λ r. ⌜ Writes (λ c. triggered c edge) self
-            (now (sla .entry)) (now (lens .entry)) (now (status .entry)) (now (counts .entry)) (now (settings .entry))
-            r (now (sla .exit)) (now (lens .exit)) (now (status .exit)) (now (counts .exit)) (now (settings .exit)) ⌝ }
+        requires { ⌜ inRange (lent self sla lens status counts) ≡ true ⌝ }
+        ensures { λ r. ⌜ left r sla lens status counts ≡ triggered (found self sla lens status counts) edge ⌝ }
     {
-        let walk = self.walk;
-        let p = walk.phase;
+        let w = self.walk;
+        let p = w.phase;
         let b = sequence::edge_beat(p, self.regs.te, self.regs.tp, edge);
-        self.beat(sla, lens, status, counts, settings, b)
+        self.beat(sla, lens, status, counts, b)
     }
 }

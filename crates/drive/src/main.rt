@@ -6,6 +6,7 @@ use channel::Answer;
 use channel::Channel;
 use channel::Op;
 use libc::STDOUT_FILENO;
+use rules::BUFFER;
 use sequence::Action;
 use sequence::Event;
 
@@ -238,11 +239,11 @@ fn step(c: Channel, mem: &mut [u8], line: u32, op: Op) -> Channel {
 }
 
 // One row of the sheet.
-fn row(c: Channel, mem: &mut [u8; 4352], r: u32) -> Channel {
+fn row(c: Channel, mem: &mut [u8; BUFFER], r: u32) -> Channel {
     let line = r / 0x100000;
     let kind = r / 0x10000 % 16;
     if kind == 0 {
-        *mem = [0u8; 4352];
+        *mem = [0u8; BUFFER];
         return Channel::new();
     }
     let a = (r / 256 % 256) as u8;
@@ -251,7 +252,7 @@ fn row(c: Channel, mem: &mut [u8; 4352], r: u32) -> Channel {
 }
 
 fn main() {
-    let mut mem = [0u8; 4352];
+    let mut mem = [0u8; BUFFER];
     let mut c = Channel::new();
     let mut i: usize = 0;
     while i < ROWS {

@@ -1,4 +1,5 @@
 pub mod Pick
 pub mod Cases
+pub mod Lists
 pub mod Sets
 pub mod Windows

@@ -13,11 +13,6 @@ pub data Mix (A : Type 0) : List A → List A → List A → List A → Type 0 w
   second : {a : A} {k l n m : List A} → Mix A k l n m → Mix A k (a ∷ l) n (a ∷ m)
   third : {a : A} {k l n m : List A} → Mix A k l n m → Mix A k l (a ∷ n) (a ∷ m)
 
--- every element has P
-abbrev pub All : {A : Type 0} → (A → Type 0) → List A → Type 0
-All P [] = Unit {0}
-All P (a ∷ l) = P a × All P l
-
 -- of a list, what is of channel c, in its order; `owner` says which channel an element is of
 abbrev pub listOf : {A : Type 0} → (A → ℕ) → ℕ → List A → List A
 listOf owner c [] = []

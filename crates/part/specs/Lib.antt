@@ -2,5 +2,6 @@ pub mod State
 pub mod Map
 pub mod Registers
 pub mod Step
+pub mod Facts
 pub mod Rows
 pub mod Laws

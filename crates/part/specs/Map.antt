@@ -1,5 +1,5 @@
 -- Document 01, 'The part as the processor sees it': the address map, and whom a step concerns.
-use Prim.Native.Nat.{ℕ, _-_, _/_, _<_}
+use Prim.Native.Nat.{ℕ, _-_, _/_}
 use lib.Dec.{eqb, ltb}
 use Rattle.laws.specs.Pick.{if_then_else_}
 use Rattle.sequence.specs.declared.wires.Event.{Event}
@@ -45,8 +45,3 @@ targetOf (Read a) = readTarget a
 targetOf (Wire c e) = wireTarget c e
 targetOf (Trigger edge) = All (AllTrigger edge)
 targetOf Reset = All AllReset
-
--- a channel that a step concerns is 0, 1 or 2
-abbrev pub InPart : Target → Type 0
-InPart (One op c) = c < 3
-InPart (All t) = Unit {0}

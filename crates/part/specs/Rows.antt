@@ -1,19 +1,23 @@
 -- The part taken apart: its channels' heads and what it has beside its channels, which go by value, and the channels' tables in rows, which are lent.
 use Prim.Native.Nat.{ℕ, _<_}
-use mathlib.Core.Bool.{Bool}
+use mathlib.Core.Bool.{Bool, false, not}
 use mathlib.Core.List.{List, [], _∷_, map}
 use mathlib.Core.Path.{_≡_}
 use denote.Ref.{RefT, now}
 use denote.Triple.Both.{Both}
 use lib.ListN.{length, getD, set}
+use Rattle.laws.specs.Pick.{if_then_else_}
+use Rattle.rules.specs.Numbers.{memorySize}
 use Rattle.sequence.specs.declared.wires.Edge.{Edge}
 use Rattle.channel.specs.declared.state.Channel.{Channel}
 use Rattle.channel.specs.declared.state.Head.{Head}
 use Rattle.channel.specs.declared.state.Headed.{Headed}
 use Rattle.channel.specs.declared.state.Stepped.{Stepped}
 use Rattle.channel.specs.declared.step.Op.{Op}
-use Rattle.channel.specs.Head.{joined, headOf}
-use Rattle.channel.specs.Step.{servedBy, servedStore, Accepted}
+use Rattle.channel.specs.State.{Served}
+use Rattle.channel.specs.Lent.{joined}
+use Rattle.channel.specs.Step.{servedBy}
+use Rattle.channel.specs.Facts.{Accepted}
 use Rattle.channel.specs.Wires.{triggered}
 use Rattle.part.specs.declared.rows.Common.{Common}
 use Rattle.part.specs.declared.rows.Heads.{Heads}
@@ -23,19 +27,19 @@ use Rattle.part.specs.declared.state.Part.{Part}
 use Rattle.part.specs.declared.state.PartStepped.{PartStepped}
 use Rattle.part.specs.State.{blank, window, putWindow}
 use Rattle.part.specs.Registers.{ctrlstatusOf, interruptOf}
-use Rattle.part.specs.Step.{commonAfter, commonOf, answerAt, Whole}
+use Rattle.part.specs.Step.{commonAfter, commonOf, answerAt}
+use Rattle.part.specs.Facts.{Whole}
 
--- the tables of all channels: SLATABLE, TRANCONFIG, STATUS, BYTECOUNT and the settings, each in a list with a row for each channel
+-- the tables of all channels: SLATABLE, TRANCONFIG, STATUS and BYTECOUNT, each in a list with a row for each channel
 pub record Rows : Type 0 where
   pub sla : List (List ℕ)
   pub lens : List (List ℕ)
   pub status : List (List ℕ)
   pub counts : List (List ℕ)
-  pub settings : List (List ℕ)
 
--- five lists as rows
-abbrev pub asRows : List (List ℕ) → List (List ℕ) → List (List ℕ) → List (List ℕ) → List (List ℕ) → Rows
-asRows sla lens status counts settings = record { sla = sla; lens = lens; status = status; counts = counts; settings = settings }
+-- four lists as rows
+abbrev pub asRows : List (List ℕ) → List (List ℕ) → List (List ℕ) → List (List ℕ) → Rows
+asRows sla lens status counts = record { sla = sla; lens = lens; status = status; counts = counts }
 
 -- three rows of each; the code's types say so, but the logic sees lists
 pub record Three (t : Rows) : Type 0 where
@@ -43,13 +47,12 @@ pub record Three (t : Rows) : Type 0 where
   pub lens : length (t .lens) ≡ 3
   pub status : length (t .status) ≡ 3
   pub counts : length (t .counts) ≡ 3
-  pub settings : length (t .settings) ≡ 3
 
 -- ---- TAKEN APART
 
 -- the heads of a part, with what it has beside its channels
 abbrev pub headsOf : Part → Heads
-headsOf p = record { channels = map headOf (p .channels); common = commonOf p }
+headsOf p = record { channels = map (λ (x : Channel). x .head) (p .channels); common = commonOf p }
 
 -- the tables of some channels, and of the part's
 abbrev pub tablesOf : List Channel → Rows
@@ -58,7 +61,6 @@ tablesOf l = record {
   lens = map (λ (x : Channel). x .tranconfig) l;
   status = map (λ (x : Channel). x .status) l;
   counts = map (λ (x : Channel). x .bytecount) l;
-  settings = map (λ (x : Channel). x .settings) l;
 }
 
 abbrev pub rowsOf : Part → Rows
@@ -74,12 +76,12 @@ pub record Holds (p : Part) (h : Heads) (t : Rows) : Type 0 where
 
 -- the head of channel c
 abbrev pub headAt : Heads → ℕ → Head
-headAt h c = getD (h .channels) c (headOf blank)
+headAt h c = getD (h .channels) c (blank .head)
 
 -- the channel of this head and row c of each
 abbrev pub channelIn : Head → Rows → ℕ → Channel
 channelIn h t c =
-    joined h (getD (t .sla) c []) (getD (t .lens) c []) (getD (t .status) c []) (getD (t .counts) c []) (getD (t .settings) c [])
+    joined h (getD (t .sla) c []) (getD (t .lens) c []) (getD (t .status) c []) (getD (t .counts) c [])
 
 -- channel c of these heads and rows
 abbrev pub channelOf : Heads → Rows → ℕ → Channel
@@ -94,29 +96,29 @@ gathered h t = record {
   key = h .common .key;
 }
 
--- ---- rows that are lent to a call, always in the order SLATABLE, TRANCONFIG, STATUS, BYTECOUNT, settings
+-- ---- rows that are lent to a call, always in the order SLATABLE, TRANCONFIG, STATUS, BYTECOUNT
 
--- one of the five, as it is lent
+-- one of the four, as it is lent
 abbrev pub Table : Type 0
 Table = RefT (List (List ℕ))
 
 -- what stands in them, for a `requires`
-abbrev pub rowsIn : Table → Table → Table → Table → Table → Rows
-rowsIn sla lens status counts settings = asRows (now sla) (now lens) (now status) (now counts) (now settings)
+abbrev pub rowsIn : Table → Table → Table → Table → Rows
+rowsIn sla lens status counts = asRows (now sla) (now lens) (now status) (now counts)
 
 abbrev pub Lent : Type 0
 Lent = Both Table Table
 
 -- and for an `ensures`: what the call finds in them, and what it leaves
-abbrev pub rowsFound : Lent → Lent → Lent → Lent → Lent → Rows
-rowsFound sla lens status counts settings = rowsIn (sla .entry) (lens .entry) (status .entry) (counts .entry) (settings .entry)
+abbrev pub rowsFound : Lent → Lent → Lent → Lent → Rows
+rowsFound sla lens status counts = rowsIn (sla .entry) (lens .entry) (status .entry) (counts .entry)
 
-abbrev pub rowsLeft : Lent → Lent → Lent → Lent → Lent → Rows
-rowsLeft sla lens status counts settings = rowsIn (sla .exit) (lens .exit) (status .exit) (counts .exit) (settings .exit)
+abbrev pub rowsLeft : Lent → Lent → Lent → Lent → Rows
+rowsLeft sla lens status counts = rowsIn (sla .exit) (lens .exit) (status .exit) (counts .exit)
 
 -- the part that a call finds in the heads that it gets and the rows that it is lent
-abbrev pub found : Heads → Lent → Lent → Lent → Lent → Lent → Part
-found h sla lens status counts settings = gathered h (rowsFound sla lens status counts settings)
+abbrev pub found : Heads → Lent → Lent → Lent → Lent → Part
+found h sla lens status counts = gathered h (rowsFound sla lens status counts)
 
 -- ---- a step of the part, in heads and rows
 
@@ -146,6 +148,12 @@ Shows h r = (t : Rows) → r ≡ ctrlstatusOf (gathered h t)
 abbrev pub Pulls : Heads → Bool → Type 0
 Pulls h r = (t : Rows) → r ≡ interruptOf (gathered h t)
 
+-- no channel has TE 1
+unfoldable pub unarmedOf : Heads → Bool
+unarmedOf h =
+    if headAt h 0 .regs .te then false else
+    if headAt h 1 .regs .te then false else not (headAt h 2 .regs .te)
+
 -- ---- a step of channel c, in its own row
 
 -- row c of each is the table of x, and every other row is as it was
@@ -155,27 +163,26 @@ withRow t c x = record {
   lens = set (t .lens) c (x .tranconfig);
   status = set (t .status) c (x .status);
   counts = set (t .counts) c (x .bytecount);
-  settings = set (t .settings) c (x .settings);
 }
 
 -- what an access or an event may rely on
 pub record OneReady (h : Head) (t : Rows) (m : List ℕ) (c : ℕ) : Type 0 where
   pub below : c < 3
-  pub memory : length m ≡ 13056
+  pub memory : length m ≡ memorySize
   pub accepted : Accepted (channelIn h t c) (window c m)
 
 -- what channel c answers, on its own 4,352 bytes
-abbrev pub servedIn : Head → Rows → List ℕ → ℕ → Op → Stepped
+abbrev pub servedIn : Head → Rows → List ℕ → ℕ → Op → Served
 servedIn h t m c op = servedBy (channelIn h t c) (window c m) c op
 
 -- and what comes of it: the head, what the part has beside its channels, the answer; row c; and the bytes
 abbrev pub oneOf : Common → ℕ → Op → Stepped → OneStepped
-oneOf k c op x = record { head = headOf (x .channel); common = commonAfter k op (x .answer); answer = answerAt c (x .answer) }
+oneOf k c op x = record { head = x .channel .head; common = commonAfter k op (x .answer); answer = answerAt c (x .answer) }
 
 pub record OneGives (h : Head) (k : Common) (t : Rows) (m : List ℕ) (c : ℕ) (op : Op) (r : OneStepped) (t′ : Rows) (m′ : List ℕ) : Type 0 where
-  pub given : r ≡ oneOf k c op (servedIn h t m c op)
-  pub rows : t′ ≡ withRow t c (servedIn h t m c op .channel)
-  pub memory : m′ ≡ putWindow c (servedStore (channelIn h t c) (window c m) c op) m
+  pub given : r ≡ oneOf k c op (servedIn h t m c op .stepped)
+  pub rows : t′ ≡ withRow t c (servedIn h t m c op .stepped .channel)
+  pub memory : m′ ≡ putWindow c (servedIn h t m c op .bytes) m
 
 -- its head and what is beside the channels are stored, and its answer is the part's
 abbrev pub oneStored : Heads → ℕ → OneStepped → HeadsStepped
@@ -183,5 +190,5 @@ oneStored h c r = record { heads = record { channels = set (h .channels) c (r .h
 
 -- a trigger edge on channel c
 pub record EdgeGives (h : Head) (t : Rows) (c : ℕ) (edge : Edge) (r : Headed) (t′ : Rows) : Type 0 where
-  pub given : r ≡ record { head = headOf (triggered (channelIn h t c) edge .channel); answer = triggered (channelIn h t c) edge .answer }
+  pub given : r ≡ record { head = triggered (channelIn h t c) edge .channel .head; answer = triggered (channelIn h t c) edge .answer }
   pub rows : t′ ≡ withRow t c (triggered (channelIn h t c) edge .channel)

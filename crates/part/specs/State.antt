@@ -1,10 +1,11 @@
 -- Words for the record of the part: the reset state, what a step answers, the record with a part replaced, a channel's record and its window.
-use Prim.Native.Nat.{ℕ, _*_}
+use Prim.Native.Nat.{ℕ}
 use mathlib.Core.Bool.{Bool, false}
 use mathlib.Core.List.{List, [], _∷_}
 use lib.ListN.{getD, set, replicate}
 use Rattle.laws.specs.Pick.{if_then_else_}
-use Rattle.laws.specs.Windows.{cut, put}
+use Rattle.laws.specs.Windows.{windowOf, putWindowOf}
+use Rattle.rules.specs.Numbers.{bufferSize, memorySize, done}
 use Rattle.sequence.specs.declared.wires.Action.{Action}
 use Rattle.sequence.specs.declared.wires.Action.the-variants.{Nothing}
 use Rattle.sequence.specs.Walk.{idle, noFlags}
@@ -18,7 +19,7 @@ use Rattle.part.specs.declared.state.PartStepped.{PartStepped}
 
 -- 13,056 zeros
 unfoldable pub wiped : List ℕ
-wiped = replicate 13056 0
+wiped = replicate memorySize 0
 
 -- three channels after a reset; CTRLSTATUS and CTRLINTMSK 00h; no key
 abbrev pub freshPart : Part
@@ -40,21 +41,17 @@ actIf mine a = if mine then record { action = a } else record { action = Nothing
 abbrev pub onlyAt : ℕ → Action → List Act
 onlyAt c a = set quiet c (record { action = a })
 
--- a number alone
-abbrev pub numberedPart : Part → ℕ → PartStepped
-numberedPart p n = told p n 0 quiet
-
 -- only a read answered 0 carries a value, else it is 00h; every answer but 0 has no action
 abbrev pub refusedPart : Part → ℕ → PartStepped
-refusedPart p n = numberedPart p n
+refusedPart p n = told p n 0 quiet
 
 -- done, with no action
 abbrev pub plainPart : Part → PartStepped
-plainPart p = numberedPart p 0
+plainPart p = told p done 0 quiet
 
 -- a read, with its value
 abbrev pub repliedPart : Part → ℕ → PartStepped
-repliedPart p v = told p 0 v quiet
+repliedPart p v = told p done v quiet
 
 -- ---- the record with one part replaced
 abbrev pub withBe : Part → Bool → Part
@@ -71,24 +68,27 @@ withKey p k = record { channels = p .channels; be = p .be; mask = p .mask; key =
 -- what stands past the third channel, where nothing reads
 abbrev pub blank : Channel
 blank = record {
+  head = record {
+    regs = record { intmsk = 0; transel = 0; tranofs = 0; tp = false; te = false };
+    key = false;
+    settings = record { framecnt = 0; refrate = 0; scll = 0; sclh = 0; mode = 0; timeout = 0 };
+    ptrs = record { sla = 0; conf = 0; buf = 0; count = 0 };
+    flags = noFlags;
+    walk = idle;
+  };
   slatable = [];
   tranconfig = [];
   status = [];
   bytecount = [];
-  settings = [];
-  regs = record { intmsk = 0; transel = 0; tranofs = 0; tp = false; te = false };
-  flags = noFlags;
-  ptrs = record { sla = 0; conf = 0; buf = 0; count = 0 };
-  walk = idle;
-  key = false;
 }
 
 abbrev pub chan : Part → ℕ → Channel
 chan p c = getD (p .channels) c blank
 
+-- channel c's own 4,352 bytes, from 4,352 times its number
 unfoldable pub window : ℕ → List ℕ → List ℕ
-window c m = cut (4352 * c) 4352 m
+window c m = windowOf bufferSize c m
 
 -- the memory with l in the place of channel c's bytes, and every other byte as it was
 unfoldable pub putWindow : ℕ → List ℕ → List ℕ → List ℕ
-putWindow c l m = put (4352 * c) 4352 l m
+putWindow c l m = putWindowOf bufferSize c l m

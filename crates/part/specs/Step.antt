@@ -1,11 +1,12 @@
 -- One step of the part: no. 9, or a step of one channel, of the whole part, or of none.
-use Prim.Native.Nat.{ℕ, _/_, _%_}
+use Prim.Native.Nat.{ℕ}
 use mathlib.Core.Bool.{Bool, true, false}
 use mathlib.Core.List.{List, [], _∷_, map}
-use mathlib.Core.Path.{_≡_}
 use lib.Dec.{eqb}
 use lib.ListN.{length, set}
 use Rattle.laws.specs.Pick.{if_then_else_}
+use Rattle.rules.specs.Interrupt.{beAfter, maskIn}
+use Rattle.rules.specs.Numbers.{memorySize, done, nowhere, outOfRange}
 use Rattle.sequence.specs.declared.wires.Edge.{Edge}
 use Rattle.channel.specs.declared.state.Answer.{Answer}
 use Rattle.channel.specs.declared.state.Channel.{Channel}
@@ -13,7 +14,8 @@ use Rattle.channel.specs.declared.state.Stepped.{Stepped}
 use Rattle.channel.specs.declared.step.Op.{Op}
 use Rattle.channel.specs.declared.step.Op.the-variants.{Write, Read, Wire}
 use Rattle.channel.specs.Range.{inRange}
-use Rattle.channel.specs.Step.{servedBy, servedStore}
+use Rattle.channel.specs.State.{Served}
+use Rattle.channel.specs.Step.{servedBy}
 use Rattle.channel.specs.Wires.{triggered}
 use Rattle.part.specs.declared.state.Act.{Act}
 use Rattle.part.specs.declared.state.Part.{Part}
@@ -30,10 +32,6 @@ use Rattle.part.specs.Map.{targetOf}
 use Rattle.part.specs.Registers.{ctrlRead, ctrlPut, ctrlStore}
 
 -- ---- a step of channel c
-
--- no. 5 sets BE
-unfoldable pub beAfter : Bool → ℕ → Bool
-beAfter be number = if eqb number 5 then true else be
 
 -- any write elsewhere forgets CTRLPRESET's A5h; a read or an event does not
 abbrev pub keyKept : Op → Bool → Bool
@@ -62,11 +60,14 @@ abbrev pub oneTold : Part → ℕ → Op → Stepped → PartStepped
 oneTold p c op r = record { part = oneAfter p c (r .channel) (commonAfter (commonOf p) op (r .answer)); answer = answerAt c (r .answer) }
 
 -- each channel works on its own 4,352 bytes
+abbrev pub oneServed : Part → List ℕ → ℕ → Op → Served
+oneServed p m c op = servedBy (chan p c) (window c m) c op
+
 unfoldable pub oneStep : Part → List ℕ → ℕ → Op → PartStepped
-oneStep p m c op = oneTold p c op (servedBy (chan p c) (window c m) c op)
+oneStep p m c op = oneTold p c op (oneServed p m c op .stepped)
 
 unfoldable pub oneBytes : Part → List ℕ → ℕ → Op → List ℕ
-oneBytes p m c op = putWindow c (servedStore (chan p c) (window c m) c op) m
+oneBytes p m c op = putWindow c (oneServed p m c op .bytes) m
 
 -- ---- a trigger edge is one step over the whole part: its answer holds one action for each channel; a frame that doesn't fit shows as BE
 
@@ -89,7 +90,7 @@ triggerStep p edge =
       mask = p .mask;
       key = p .key;
     })
-    0 0 (map (edgeAct edge) (p .channels))
+    done 0 (map (edgeAct edge) (p .channels))
 
 -- ---- a step of the whole part; no. 1 for a channel above 2; the hardware reset does what CTRLPRESET does
 unfoldable pub allServed : Part → Wide → PartStepped
@@ -97,7 +98,7 @@ allServed p (CtrlWrite reg v) = ctrlPut p reg v
 allServed p (CtrlRead reg) = ctrlRead p reg
 allServed p (AllTrigger edge) = triggerStep p edge
 allServed p AllReset = plainPart freshPart
-allServed p Beyond = refusedPart p 1
+allServed p Beyond = refusedPart p nowhere
 
 -- and the bytes
 unfoldable pub allStored : Part → List ℕ → Wide → List ℕ
@@ -123,27 +124,18 @@ unfoldable pub channelsIn : List Channel → Bool
 channelsIn [] = true
 channelsIn (c ∷ l) = if inRange c then channelsIn l else false
 
--- no bit of CTRLINTMSK that is kept 0 is set
-abbrev pub maskIn : ℕ → Bool
-maskIn mask = eqb (mask / 8 % 16) 0
-
--- the part is in range
+-- the part is in range: every channel is, and no bit of CTRLINTMSK that is kept 0 is set
 unfoldable pub partIn : Part → Bool
 partIn p = if channelsIn (p .channels) then maskIn (p .mask) else false
 
 -- a memory of 13,056 bytes and a part in range are accepted
 unfoldable pub accepts : Part → ℕ → Bool
-accepts p len = if eqb len 13056 then partIn p else false
+accepts p len = if eqb len memorySize then partIn p else false
 
 -- the new part with its answer
 unfoldable pub partStep : Part → List ℕ → Step → PartStepped
-partStep p m s = if accepts p (length m) then partServed p m (targetOf s) else refusedPart p 9
+partStep p m s = if accepts p (length m) then partServed p m (targetOf s) else refusedPart p outOfRange
 
 -- the 13,056 bytes
 unfoldable pub partBytes : Part → List ℕ → Step → List ℕ
 partBytes p m s = if accepts p (length m) then partStored p m (targetOf s) else m
-
--- what a step that is not refused by no. 9 may rely on
-pub record Whole (p : Part) (m : List ℕ) : Type 0 where
-  pub ranged : partIn p ≡ true
-  pub whole : length m ≡ 13056

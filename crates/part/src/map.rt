@@ -1,6 +1,7 @@
 // Document 01, 'The part as the processor sees it': the address map, and whom a step concerns.
 ghost use mathlib.Core.Path.{_≡_};
-ghost use Rattle.part.specs.Map.{channelAt, ctrlAt, writeTarget, readTarget, wireTarget, targetOf, InPart};
+ghost use Rattle.part.specs.Map.{channelAt, ctrlAt, writeTarget, readTarget, wireTarget, targetOf};
+ghost use Rattle.part.specs.Facts.{InPart};
 use channel::Op;
 use sequence::Edge;
 use sequence::Event;
@@ -34,7 +35,7 @@ pub enum Wide {
     Beyond,
 }
 
-// Whom a step concerns: one channel, by what is asked of it and its number, or all.
+// Whom a step concerns: one channel, by what is asked of it and its number; or the whole part, or nobody.
 pub enum Target {
     One(Op, u8),
     All(Wide),

@@ -5,34 +5,40 @@ ghost use mathlib.Core.List.{[], _∷_};
 ghost use mathlib.Core.Path.{_≡_};
 ghost use Prim.Native.Nat.{_<_};
 ghost use lib.ListN.{length};
+ghost use Rattle.rules.specs.Numbers.{memorySize};
+ghost use Rattle.rules.specs.Interrupt.{pendingOf};
 ghost use Rattle.rules.specs.Registers.{activeOf};
 ghost use Rattle.channel.specs.Range.{inRange};
 ghost use Rattle.part.specs.State.{freshPart, wiped, plainPart, told, quiet};
-ghost use Rattle.part.specs.Registers.{pendingOf, ctrlRead, ctrlWritten, ctrlPut, ctrlStore};
+ghost use Rattle.part.specs.Registers.{ctrlRead, ctrlWritten, ctrlPut, ctrlStore};
 ghost use Rattle.part.specs.Step.{partIn, triggerStep, allServed, allStored, partStep, partBytes};
 ghost use Rattle.part.specs.Rows.{Three, Holds, headsOf, headAt, channelIn, channelOf, gathered, rowsIn, rowsFound, rowsLeft, found};
-ghost use Rattle.part.specs.Rows.{Ready, Gives, Tells, Shows, Pulls, withRow, OneReady, OneGives, EdgeGives};
+ghost use Rattle.part.specs.Rows.{Ready, Gives, Tells, Shows, Pulls, unarmedOf, withRow, OneReady, OneGives, EdgeGives};
 use crate::map::Ctrl;
 use crate::map::Step;
 use crate::map::Target;
 use crate::map::Wide;
 use crate::map::target_of;
-use crate::registers::ctrl_kept;
 use crate::registers::is_ctrlpreset;
-use crate::registers::pending;
-use crate::registers::pulled;
 use crate::state::Act;
 use crate::state::Part;
 use crate::state::PartAnswer;
 use crate::state::act_at;
 use crate::state::no_acts;
-use crate::step::be_after;
 use crate::step::key_kept;
 use channel::Answer;
 use channel::Channel;
 use channel::Head;
 use channel::Headed;
 use channel::Op;
+use rules::BUFFER;
+use rules::DONE;
+use rules::NOWHERE;
+use rules::READ_ONLY;
+use rules::be_after;
+use rules::ctrl_kept;
+use rules::pending;
+use rules::pulled;
 use rules::weight;
 use sequence::Edge;
 
@@ -69,11 +75,10 @@ fn put_row<'a>(
     lens: &'a mut [[u8; 65]; 3],
     status: &'a mut [[u8; 64]; 3],
     counts: &'a mut [[u8; 64]; 3],
-    settings: &'a mut [[u8; 6]; 3],
     c: usize,
 )
     requires { ⌜ c < 3 ⌝ }
-    ensures { λ _. ⌜ rowsLeft sla lens status counts settings ≡ withRow (rowsFound sla lens status counts settings) c x ⌝ }
+    ensures { λ _. ⌜ rowsLeft sla lens status counts ≡ withRow (rowsFound sla lens status counts) c x ⌝ }
 {
     let slatable = x.slatable;
     sla[c] = slatable;
@@ -83,8 +88,6 @@ fn put_row<'a>(
     status[c] = statuses;
     let bytecount = x.bytecount;
     counts[c] = bytecount;
-    let stored = x.settings;
-    settings[c] = stored;
 }
 
 // Takes the part apart: puts the tables of each channel into its row, and gives the rest.
@@ -94,18 +97,17 @@ pub fn spread(
     lens: &mut [[u8; 65]; 3],
     status: &mut [[u8; 64]; 3],
     counts: &mut [[u8; 64]; 3],
-    settings: &mut [[u8; 6]; 3],
 ) -> Heads
-    requires { ⌜ Three (rowsIn sla lens status counts settings) ⌝ }
-    ensures { λ r. ⌜ Holds part r (rowsLeft sla lens status counts settings) ⌝ }
+    requires { ⌜ Three (rowsIn sla lens status counts) ⌝ }
+    ensures { λ r. ⌜ Holds part r (rowsLeft sla lens status counts) ⌝ }
 {
     let channels = part.channels;
     let first = channels[0];
-    put_row(first, sla, lens, status, counts, settings, 0);
+    put_row(first, sla, lens, status, counts, 0);
     let second = channels[1];
-    put_row(second, sla, lens, status, counts, settings, 1);
+    put_row(second, sla, lens, status, counts, 1);
     let third = channels[2];
-    put_row(third, sla, lens, status, counts, settings, 2);
+    put_row(third, sla, lens, status, counts, 2);
     part.heads()
 }
 
@@ -115,11 +117,14 @@ impl Part {
         ensures { λ r. ⌜ r ≡ headsOf self ⌝ }
     {
         let channels = self.channels;
-        let first = channels[0];
-        let second = channels[1];
-        let third = channels[2];
+        let a = channels[0];
+        let b = channels[1];
+        let c = channels[2];
+        let first = a.head;
+        let second = b.head;
+        let third = c.head;
         Heads {
-            channels: [first.head(), second.head(), third.head()],
+            channels: [first, second, third],
             common: Common {
                 be: self.be,
                 mask: self.mask,
@@ -136,14 +141,23 @@ impl Heads {
         lens: &'a [[u8; 65]; 3],
         status: &'a [[u8; 64]; 3],
         counts: &'a [[u8; 64]; 3],
-        settings: &'a [[u8; 6]; 3],
         c: usize,
     ) -> Channel
         requires { ⌜ c < 3 ⌝ }
-        ensures { λ r. ⌜ r ≡ channelOf self (rowsFound sla lens status counts settings) c ⌝ }
+        ensures { λ r. ⌜ r ≡ channelOf self (rowsFound sla lens status counts) c ⌝ }
     {
         let h = self.channels[c];
-        h.join(sla[c], lens[c], status[c], counts[c], settings[c])
+        let slatable = sla[c];
+        let tranconfig = lens[c];
+        let statuses = status[c];
+        let bytecount = counts[c];
+        Channel {
+            slatable,
+            head: h,
+            status: statuses,
+            bytecount,
+            tranconfig,
+        }
     }
 
     // Puts the part together again.
@@ -153,13 +167,12 @@ impl Heads {
         lens: &'a [[u8; 65]; 3],
         status: &'a [[u8; 64]; 3],
         counts: &'a [[u8; 64]; 3],
-        settings: &'a [[u8; 6]; 3],
     ) -> Part
-        ensures { λ r. ⌜ r ≡ gathered self (rowsFound sla lens status counts settings) ⌝ }
+        ensures { λ r. ⌜ r ≡ gathered self (rowsFound sla lens status counts) ⌝ }
     {
-        let first = self.channel_at(sla, lens, status, counts, settings, 0);
-        let second = self.channel_at(sla, lens, status, counts, settings, 1);
-        let third = self.channel_at(sla, lens, status, counts, settings, 2);
+        let first = self.channel_at(sla, lens, status, counts, 0);
+        let second = self.channel_at(sla, lens, status, counts, 1);
+        let third = self.channel_at(sla, lens, status, counts, 2);
         Part {
             channels: [first, second, third],
             be: self.common.be,
@@ -253,7 +266,7 @@ impl Heads {
         ensures { λ r. ⌜ Tells (λ p. ctrlRead p Ctrl.Ctrlstatus) self r ⌝ }
     {
         let v = self.ctrlstatus();
-        self.with_be(false).tell(0, v)
+        self.with_be(false).tell(DONE, v)
     }
 
     // A read at F0h to FFh.
@@ -262,32 +275,32 @@ impl Heads {
     {
         match reg {
             Ctrl::Ctrlstatus => self.read_ctrlstatus(),
-            Ctrl::Ctrlintmsk => self.tell(0, self.common.mask),
-            Ctrl::Reserved => self.tell(0, 0x00),
-            Ctrl::DeviceId => self.tell(0, 0x63),
-            Ctrl::Ctrlpreset => self.tell(0, 0x00),
-            Ctrl::Nothing => self.tell(1, 0),
-            Ctrl::Ctrlrdy => self.tell(0, 0x00),
+            Ctrl::Ctrlintmsk => self.tell(DONE, self.common.mask),
+            Ctrl::Reserved => self.tell(DONE, 0x00),
+            Ctrl::DeviceId => self.tell(DONE, 0x63),
+            Ctrl::Ctrlpreset => self.tell(DONE, 0x00),
+            Ctrl::Nothing => self.tell(NOWHERE, 0),
+            Ctrl::Ctrlrdy => self.tell(DONE, 0x00),
         }
     }
 
     fn write_mask(self, v: u8) -> HeadsStepped
         ensures { λ r. ⌜ Tells (λ p. ctrlWritten p Ctrl.Ctrlintmsk v) self r ⌝ }
     {
-        self.with_mask(ctrl_kept(v)).tell(0, 0)
+        self.with_mask(ctrl_kept(v)).tell(DONE, 0)
     }
 
     fn write_ctrl(self, reg: Ctrl, v: u8) -> HeadsStepped
         ensures { λ r. ⌜ Tells (λ p. ctrlWritten p reg v) self r ⌝ }
     {
         match reg {
-            Ctrl::Ctrlstatus => self.tell(2, 0),
+            Ctrl::Ctrlstatus => self.tell(READ_ONLY, 0),
             Ctrl::Ctrlintmsk => self.write_mask(v),
-            Ctrl::Reserved => self.tell(2, 0),
-            Ctrl::DeviceId => self.tell(2, 0),
-            Ctrl::Ctrlpreset => self.tell(0, 0),
-            Ctrl::Nothing => self.tell(1, 0),
-            Ctrl::Ctrlrdy => self.tell(2, 0),
+            Ctrl::Reserved => self.tell(READ_ONLY, 0),
+            Ctrl::DeviceId => self.tell(READ_ONLY, 0),
+            Ctrl::Ctrlpreset => self.tell(DONE, 0),
+            Ctrl::Nothing => self.tell(NOWHERE, 0),
+            Ctrl::Ctrlrdy => self.tell(READ_ONLY, 0),
         }
     }
 
@@ -298,21 +311,36 @@ impl Heads {
         lens: &mut [[u8; 65]; 3],
         status: &mut [[u8; 64]; 3],
         counts: &mut [[u8; 64]; 3],
-        settings: &mut [[u8; 6]; 3],
         mem: &mut [u8],
         reg: Ctrl,
         v: u8,
     ) -> HeadsStepped
-        requires { ⌜ Ready self (rowsIn sla lens status counts settings) (now mem) ⌝ }
-        ensures { λ r. ⌜ Gives (ctrlPut (found self sla lens status counts settings) reg v) r (rowsLeft sla lens status counts settings)
-            × (now (mem .exit) ≡ ctrlStore (found self sla lens status counts settings) (now (mem .entry)) reg v) ⌝ }
+        requires { ⌜ Ready self (rowsIn sla lens status counts) (now mem) ⌝ }
+        ensures { λ r. ⌜ Gives (ctrlPut (found self sla lens status counts) reg v) r (rowsLeft sla lens status counts)
+            × (now (mem .exit) ≡ ctrlStore (found self sla lens status counts) (now (mem .entry)) reg v) ⌝ }
     {
         let preset = is_ctrlpreset(reg);
         if rules::resets(preset, v, self.common.key) {
-            return reset(sla, lens, status, counts, settings, mem);
+            return reset(sla, lens, status, counts, mem);
         }
         let key = rules::key_after(preset, v);
         self.with_key(key).write_ctrl(reg, v)
+    }
+
+    // Whether no channel has TE 1, so that an edge does nothing.
+    fn unarmed(self) -> bool
+        ensures { λ r. ⌜ r ≡ unarmedOf self ⌝ }
+    {
+        let first = self.channels[0];
+        let second = self.channels[1];
+        let third = self.channels[2];
+        if first.regs.te {
+            return false;
+        }
+        if second.regs.te {
+            return false;
+        }
+        !third.regs.te
     }
 
     // A trigger edge over all three channels, with an action for each.
@@ -322,18 +350,35 @@ impl Heads {
         lens: &mut [[u8; 65]; 3],
         status: &mut [[u8; 64]; 3],
         counts: &mut [[u8; 64]; 3],
-        settings: &mut [[u8; 6]; 3],
         edge: Edge,
     ) -> HeadsStepped
-        requires { ⌜ Three (rowsIn sla lens status counts settings) × (partIn (gathered self (rowsIn sla lens status counts settings)) ≡ true) ⌝ }
-        ensures { λ r. ⌜ Gives (triggerStep (found self sla lens status counts settings) edge) r (rowsLeft sla lens status counts settings) ⌝ }
+        requires { ⌜ (length (self .channels) ≡ 3) × Three (rowsIn sla lens status counts) × (partIn (gathered self (rowsIn sla lens status counts)) ≡ true) ⌝ }
+        ensures { λ r. ⌜ Gives (triggerStep (found self sla lens status counts) edge) r (rowsLeft sla lens status counts) ⌝ }
+    {
+        if self.unarmed() {
+            return self.tell(DONE, 0);
+        }
+        self.trigger_each(sla, lens, status, counts, edge)
+    }
+
+    // The same, channel by channel.
+    fn trigger_each(
+        self,
+        sla: &mut [[u8; 64]; 3],
+        lens: &mut [[u8; 65]; 3],
+        status: &mut [[u8; 64]; 3],
+        counts: &mut [[u8; 64]; 3],
+        edge: Edge,
+    ) -> HeadsStepped
+        requires { ⌜ Three (rowsIn sla lens status counts) × (partIn (gathered self (rowsIn sla lens status counts)) ≡ true) ⌝ }
+        ensures { λ r. ⌜ Gives (triggerStep (found self sla lens status counts) edge) r (rowsLeft sla lens status counts) ⌝ }
     {
         let a = self.channels[0];
-        let x = edge_at(a, sla, lens, status, counts, settings, 0, edge);
+        let x = edge_at(a, sla, lens, status, counts, 0, edge);
         let b = self.channels[1];
-        let y = edge_at(b, sla, lens, status, counts, settings, 1, edge);
+        let y = edge_at(b, sla, lens, status, counts, 1, edge);
         let d = self.channels[2];
-        let z = edge_at(d, sla, lens, status, counts, settings, 2, edge);
+        let z = edge_at(d, sla, lens, status, counts, 2, edge);
         let first = x.head;
         let second = y.head;
         let third = z.head;
@@ -351,7 +396,7 @@ impl Heads {
                 },
             },
             answer: PartAnswer {
-                number: 0,
+                number: DONE,
                 value: 0,
                 actions: three_acts(x.answer, y.answer, z.answer),
             },
@@ -365,22 +410,19 @@ impl Heads {
         lens: &mut [[u8; 65]; 3],
         status: &mut [[u8; 64]; 3],
         counts: &mut [[u8; 64]; 3],
-        settings: &mut [[u8; 6]; 3],
         mem: &mut [u8],
         t: Wide,
     ) -> HeadsStepped
-        requires { ⌜ Ready self (rowsIn sla lens status counts settings) (now mem) ⌝ }
-        ensures { λ r. ⌜ Gives (allServed (found self sla lens status counts settings) t) r (rowsLeft sla lens status counts settings)
-            × (now (mem .exit) ≡ allStored (found self sla lens status counts settings) (now (mem .entry)) t) ⌝ }
+        requires { ⌜ Ready self (rowsIn sla lens status counts) (now mem) ⌝ }
+        ensures { λ r. ⌜ Gives (allServed (found self sla lens status counts) t) r (rowsLeft sla lens status counts)
+            × (now (mem .exit) ≡ allStored (found self sla lens status counts) (now (mem .entry)) t) ⌝ }
     {
         match t {
-            Wide::CtrlWrite(reg, v) => {
-                self.put_ctrl(sla, lens, status, counts, settings, mem, reg, v)
-            }
+            Wide::CtrlWrite(reg, v) => { self.put_ctrl(sla, lens, status, counts, mem, reg, v) }
             Wide::CtrlRead(reg) => self.read_ctrl(reg),
-            Wide::AllTrigger(edge) => { self.trigger(sla, lens, status, counts, settings, edge) }
-            Wide::AllReset => reset(sla, lens, status, counts, settings, mem),
-            Wide::Beyond => self.tell(1, 0),
+            Wide::AllTrigger(edge) => { self.trigger(sla, lens, status, counts, edge) }
+            Wide::AllReset => reset(sla, lens, status, counts, mem),
+            Wide::Beyond => self.tell(NOWHERE, 0),
         }
     }
 
@@ -391,13 +433,12 @@ impl Heads {
         lens: &mut [[u8; 65]; 3],
         status: &mut [[u8; 64]; 3],
         counts: &mut [[u8; 64]; 3],
-        settings: &mut [[u8; 6]; 3],
         mem: &mut [u8],
         s: Step,
     ) -> HeadsStepped
-        requires { ⌜ Ready self (rowsIn sla lens status counts settings) (now mem) ⌝ }
-        ensures { λ r. ⌜ Gives (partStep (found self sla lens status counts settings) (now (mem .entry)) s) r (rowsLeft sla lens status counts settings)
-            × (now (mem .exit) ≡ partBytes (found self sla lens status counts settings) (now (mem .entry)) s) ⌝ }
+        requires { ⌜ Ready self (rowsIn sla lens status counts) (now mem) ⌝ }
+        ensures { λ r. ⌜ Gives (partStep (found self sla lens status counts) (now (mem .entry)) s) r (rowsLeft sla lens status counts)
+            × (now (mem .exit) ≡ partBytes (found self sla lens status counts) (now (mem .entry)) s) ⌝ }
     {
         let t = target_of(s);
         match t {
@@ -405,18 +446,7 @@ impl Heads {
                 let i = c as usize;
                 let mut next = self;
                 let h = next.channels[i];
-                let r = one(
-                    h,
-                    next.common,
-                    sla,
-                    lens,
-                    status,
-                    counts,
-                    settings,
-                    mem,
-                    c,
-                    op,
-                );
+                let r = one(h, next.common, sla, lens, status, counts, mem, c, op);
                 let g = r.head;
                 next.channels[i] = g;
                 let common = r.common;
@@ -427,7 +457,7 @@ impl Heads {
                     answer,
                 }
             }
-            Target::All(w) => self.all(sla, lens, status, counts, settings, mem, w),
+            Target::All(w) => self.all(sla, lens, status, counts, mem, w),
         }
     }
 }
@@ -440,23 +470,21 @@ pub fn one(
     lens: &mut [[u8; 65]; 3],
     status: &mut [[u8; 64]; 3],
     counts: &mut [[u8; 64]; 3],
-    settings: &mut [[u8; 6]; 3],
     mem: &mut [u8],
     c: u8,
     op: Op,
 ) -> OneStepped
-    requires { ⌜ OneReady h (rowsIn sla lens status counts settings) (now mem) c ⌝ }
-    ensures { λ r. ⌜ OneGives h k (rowsFound sla lens status counts settings) (now (mem .entry)) c op r (rowsLeft sla lens status counts settings) (now (mem .exit)) ⌝ }
+    requires { ⌜ OneReady h (rowsIn sla lens status counts) (now mem) c ⌝ }
+    ensures { λ r. ⌜ OneGives h k (rowsFound sla lens status counts) (now (mem .entry)) c op r (rowsLeft sla lens status counts) (now (mem .exit)) ⌝ }
 {
     let i = c as usize;
-    let start = 4352 * i;
-    let till = start + 4352;
+    let start = BUFFER * i;
+    let till = start + BUFFER;
     let r = h.serve_lent(
         &mut sla[i],
         &mut lens[i],
         &mut status[i],
         &mut counts[i],
-        &mut settings[i],
         c,
         &mut mem[start..till],
         op,
@@ -486,19 +514,17 @@ fn edge_at(
     lens: &mut [[u8; 65]; 3],
     status: &mut [[u8; 64]; 3],
     counts: &mut [[u8; 64]; 3],
-    settings: &mut [[u8; 6]; 3],
     c: usize,
     edge: Edge,
 ) -> Headed
-    requires { ⌜ (c < 3) × (inRange (channelIn h (rowsIn sla lens status counts settings) c) ≡ true) ⌝ }
-    ensures { λ r. ⌜ EdgeGives h (rowsFound sla lens status counts settings) c edge r (rowsLeft sla lens status counts settings) ⌝ }
+    requires { ⌜ (c < 3) × (inRange (channelIn h (rowsIn sla lens status counts) c) ≡ true) ⌝ }
+    ensures { λ r. ⌜ EdgeGives h (rowsFound sla lens status counts) c edge r (rowsLeft sla lens status counts) ⌝ }
 {
     h.trigger_lent(
         &mut sla[c],
         &mut lens[c],
         &mut status[c],
         &mut counts[c],
-        &mut settings[c],
         edge,
     )
 }
@@ -522,12 +548,11 @@ fn reset(
     lens: &mut [[u8; 65]; 3],
     status: &mut [[u8; 64]; 3],
     counts: &mut [[u8; 64]; 3],
-    settings: &mut [[u8; 6]; 3],
     mem: &mut [u8],
 ) -> HeadsStepped
-    requires { ⌜ Three (rowsIn sla lens status counts settings) × (length (now mem) ≡ 13056) ⌝ }
-    ensures { λ r. ⌜ Gives (plainPart freshPart) r (rowsLeft sla lens status counts settings) × (now (mem .exit) ≡ wiped) ⌝ }
+    requires { ⌜ Three (rowsIn sla lens status counts) × (length (now mem) ≡ memorySize) ⌝ }
+    ensures { λ r. ⌜ Gives (plainPart freshPart) r (rowsLeft sla lens status counts) × (now (mem .exit) ≡ wiped) ⌝ }
 {
     rules::wipe(mem);
-    spread(Part::new(), sla, lens, status, counts, settings).tell(0, 0)
+    spread(Part::new(), sla, lens, status, counts).tell(DONE, 0)
 }

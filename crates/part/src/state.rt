@@ -1,7 +1,7 @@
 // The record of the part, and what a step answers.
 ghost use mathlib.Core.Path.{_≡_};
 ghost use Prim.Native.Nat.{_<_};
-ghost use Rattle.part.specs.State.{freshPart, numberedPart, quiet, actIf, onlyAt};
+ghost use Rattle.part.specs.State.{freshPart, refusedPart, quiet, actIf, onlyAt};
 use channel::Channel;
 use sequence::Action;
 
@@ -81,7 +81,7 @@ impl Part {
 
     // The part with an answer's number and nothing else.
     pub(crate) fn answer(self, number: u8) -> PartStepped
-        ensures { λ r. ⌜ r ≡ numberedPart self number ⌝ }
+        ensures { λ r. ⌜ r ≡ refusedPart self number ⌝ }
     {
         PartStepped {
             part: self,

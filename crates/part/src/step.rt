@@ -3,18 +3,16 @@ ghost use mathlib.Core.Bool.{true};
 ghost use mathlib.Core.Path.{_≡_};
 ghost use Prim.Native.Nat.{_<_};
 ghost use Rattle.part.specs.Registers.{interruptOf};
-ghost use Rattle.part.specs.Step.{beAfter, keyKept, maskIn, channelsIn, partIn, accepts, partStep, partBytes, Whole};
+ghost use Rattle.part.specs.Step.{keyKept, channelsIn, partIn, accepts, partStep, partBytes};
+ghost use Rattle.part.specs.Facts.{Whole};
 use crate::map::Step;
 use crate::rows::spread;
 use crate::state::Part;
 use crate::state::PartStepped;
 use channel::Op;
-
-pub(crate) fn be_after(be: bool, number: u8) -> bool
-    ensures { λ r. ⌜ r ≡ beAfter be number ⌝ }
-{
-    if number == 5 { true } else { be }
-}
+use rules::MEMORY;
+use rules::OUT_OF_RANGE;
+use rules::mask_in;
 
 pub(crate) fn key_kept(op: Op, key: bool) -> bool
     ensures { λ r. ⌜ r ≡ keyKept op key ⌝ }
@@ -24,12 +22,6 @@ pub(crate) fn key_kept(op: Op, key: bool) -> bool
         Op::Read(_) => key,
         Op::Wire(_) => key,
     }
-}
-
-fn mask_in(mask: u8) -> bool
-    ensures { λ r. ⌜ r ≡ maskIn mask ⌝ }
-{
-    mask / 8 % 16 == 0
 }
 
 impl Part {
@@ -62,7 +54,11 @@ impl Part {
     fn accepts_len(self, len: usize) -> bool
         ensures { λ r. ⌜ r ≡ accepts self len ⌝ }
     {
-        if len == 13056 { self.in_range() } else { false }
+        if len == MEMORY {
+            self.in_range()
+        } else {
+            false
+        }
     }
 
     // A step of a part and a memory that no. 9 does not refuse: the part is taken apart for it, and put together again.
@@ -74,28 +70,12 @@ impl Part {
         let mut lens = [[0u8; 65]; 3];
         let mut status = [[0u8; 64]; 3];
         let mut counts = [[0u8; 64]; 3];
-        let mut settings = [[0u8; 6]; 3];
-        let h = spread(
-            self,
-            &mut sla,
-            &mut lens,
-            &mut status,
-            &mut counts,
-            &mut settings,
-        );
-        let r = h.advance(
-            &mut sla,
-            &mut lens,
-            &mut status,
-            &mut counts,
-            &mut settings,
-            mem,
-            s,
-        );
+        let h = spread(self, &mut sla, &mut lens, &mut status, &mut counts);
+        let r = h.advance(&mut sla, &mut lens, &mut status, &mut counts, mem, s);
         let g = r.heads;
         let answer = r.answer;
         PartStepped {
-            part: g.gather(&sla, &lens, &status, &counts, &settings),
+            part: g.gather(&sla, &lens, &status, &counts),
             answer,
         }
     }
@@ -112,7 +92,7 @@ impl Part {
         ensures { λ r. ⌜ (r ≡ partStep self (now (mem .entry)) s) × (now (mem .exit) ≡ partBytes self (now (mem .entry)) s) ⌝ }
     {
         if !self.accepts_len(mem.len()) {
-            return self.answer(9);
+            return self.answer(OUT_OF_RANGE);
         }
         self.advance(mem, s)
     }

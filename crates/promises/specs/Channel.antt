@@ -9,10 +9,10 @@ use Rattle.channel.specs.declared.state.Headed.{Headed}
 use Rattle.channel.specs.declared.state.Stepped.{Stepped}
 use Rattle.channel.specs.declared.step.Op.{Op}
 use Rattle.sequence.specs.declared.wires.Edge.{Edge}
-use Rattle.channel.specs.Head.{headOf, joined, Writes}
+use Rattle.channel.specs.Lent.{joined, rejoined}
 use Rattle.channel.specs.Range.{inRange}
-use Rattle.channel.specs.State.{fresh}
-use Rattle.channel.specs.Step.{servedBy, servedStore, stepOf, bytesAfter}
+use Rattle.channel.specs.State.{fresh, keeping}
+use Rattle.channel.specs.Step.{servedBy, stepOf, bytesAfter}
 use Rattle.channel.specs.Wires.{triggered}
 use Rattle.promises.specs.Promise.{Once, no-second, both}
 
@@ -24,36 +24,29 @@ in-range-once self = no-second (λ r h. h)
 pub new-once : Once Channel (λ r. r ≡ fresh)
 new-once = no-second (λ r h. h)
 
-pub head-once : (self : Channel) → Once Head (λ r. r ≡ headOf self)
-head-once self = no-second (λ r h. h)
-
-pub join-once : (self : Head) (sla lens status counts settings : List ℕ) → Once Channel (λ r. r ≡ joined self sla lens status counts settings)
-join-once self sla lens status counts settings = no-second (λ r h. h)
-
 -- ---- step.rt
 -- what is told of the whole channel tells each part of it: the head, with the answer, and each table
-abbrev apart : Stepped → Headed × List ℕ × List ℕ × List ℕ × List ℕ × List ℕ
+abbrev apart : Stepped → Headed × List ℕ × List ℕ × List ℕ × List ℕ
 apart s =
     let c = s .channel in
-    (record { head = headOf c; answer = s .answer }, c .slatable, c .tranconfig, c .status, c .bytecount, c .settings)
+    (record { head = c .head; answer = s .answer }, c .slatable, c .tranconfig, c .status, c .bytecount)
 
-pub serve-lent-once : (self : Head) (sla lens status counts settings : List ℕ) (number : ℕ) (mem : List ℕ) (op : Op)
-    → Once (Headed × List ℕ × List ℕ × List ℕ × List ℕ × List ℕ × List ℕ)
-    (λ (r, sla′, lens′, status′, counts′, settings′, mem′).
-    Writes (λ c. servedBy c mem number op) self sla lens status counts settings r sla′ lens′ status′ counts′ settings′
-    × (mem′ ≡ servedStore (joined self sla lens status counts settings) mem number op))
-serve-lent-once self sla lens status counts settings number mem op =
+pub serve-lent-once : (self : Head) (sla lens status counts : List ℕ) (number : ℕ) (mem : List ℕ) (op : Op)
+    → Once (Headed × List ℕ × List ℕ × List ℕ × List ℕ × List ℕ)
+    (λ (r, sla′, lens′, status′, counts′, mem′).
+    keeping mem′ (rejoined r sla′ lens′ status′ counts′) ≡ servedBy (joined self sla lens status counts) mem number op)
+serve-lent-once self sla lens status counts number mem op =
     no-second (λ o h. λ i.
-    let t = apart (h .0 i) in
-    (t .0, t .1, t .2, t .3, t .4, t .5, h .1 i))
+    let t = apart (h i .stepped) in
+    (t .0, t .1, t .2, t .3, t .4, h i .bytes))
 
 pub step-once : (self : Channel) (number : ℕ) (mem : List ℕ) (op : Op)
     → Once (Stepped × List ℕ) (λ (r, mem′). (r ≡ stepOf self mem number op) × (mem′ ≡ bytesAfter self mem number op))
 step-once self number mem op = no-second (λ o h. both (h .0) (h .1))
 
 -- ---- wires.rt
-pub trigger-lent-once : (self : Head) (sla lens status counts settings : List ℕ) (edge : Edge)
-    → Once (Headed × List ℕ × List ℕ × List ℕ × List ℕ × List ℕ)
-    (λ (r, sla′, lens′, status′, counts′, settings′).
-    Writes (λ c. triggered c edge) self sla lens status counts settings r sla′ lens′ status′ counts′ settings′)
-trigger-lent-once self sla lens status counts settings edge = no-second (λ o h. ap apart h)
+pub trigger-lent-once : (self : Head) (sla lens status counts : List ℕ) (edge : Edge)
+    → Once (Headed × List ℕ × List ℕ × List ℕ × List ℕ)
+    (λ (r, sla′, lens′, status′, counts′).
+    rejoined r sla′ lens′ status′ counts′ ≡ triggered (joined self sla lens status counts) edge)
+trigger-lent-once self sla lens status counts edge = no-second (λ o h. ap apart h)

@@ -8,12 +8,16 @@ use Rattle.rules.specs.declared.registers.Command.{Command}
 use Rattle.rules.specs.declared.registers.Place.{Place}
 use Rattle.rules.specs.declared.registers.Register.{Register}
 use Rattle.rules.specs.declared.state.Flags.{Flags}
+use Rattle.rules.specs.declared.access.Spot.{Spot}
 use Rattle.rules.specs.declared.state.Phase.{Phase}
 use Rattle.rules.specs.declared.state.Ptrs.{Ptrs}
 use Rattle.rules.specs.declared.state.Walk.{Walk}
-use Rattle.rules.specs.Access.{busyRefusal, pastRefusal, placeRefusal, slaRefusal, confRefusal, dataRefusal, selRefusal, keptIf, rewound, pointedAt, overrunOf, presetOf, keyAfter, resetsOf}
+use Rattle.rules.specs.Access.{busyRefusal, pastRefusal, placeRefusal, slaRefusal, confRefusal, spotOf, spotRefusal, dataRefusal, selRefusal}
+use Rattle.rules.specs.Access.{keptIf, rewound, pointedAt, overrunOf, presetOf, keyAfter, resetsOf}
+use Rattle.rules.specs.Facts.{InBuffer, KnownPlace}
+use Rattle.rules.specs.Interrupt.{ctrlKept, pendingOf, pulledBy, beAfter, maskIn}
 use Rattle.rules.specs.Range.{pointersIn, registersIn, walkIn, frameIn}
-use Rattle.rules.specs.Registers.{placeOf, KnownPlace, activeOf, bitOf, commandOf, weigh, controlValue, chstatusValue, maskKept}
+use Rattle.rules.specs.Registers.{placeOf, activeOf, bitOf, commandOf, weigh, controlValue, chstatusValue, maskKept}
 use Rattle.rules.specs.Tables.{startOf, fitting, readsOf, firstSent, marked}
 use Rattle.promises.specs.Promise.{Once, no-second}
 
@@ -33,8 +37,14 @@ sla-refusal-once p at = no-second (λ r h. h)
 pub conf-refusal-once : (p : Phase) (at v : ℕ) → Once ℕ (λ r. r ≡ confRefusal p at v)
 conf-refusal-once p at v = no-second (λ r h. h)
 
-pub data-refusal-once : (p : Phase) (at : ℕ) → Once ℕ (λ r. r ≡ dataRefusal p at)
-data-refusal-once p at = no-second (λ r h. h)
+pub find-place-once : (at : ℕ) → Once Spot (λ r. (r ≡ spotOf at) × InBuffer r)
+find-place-once at = no-second (λ r h. h .0)
+
+pub spot-refusal-once : (s : Spot) → Once ℕ (λ r. r ≡ spotRefusal s)
+spot-refusal-once s = no-second (λ r h. h)
+
+pub data-refusal-once : (p : Phase) (s : Spot) → Once ℕ (λ r. r ≡ dataRefusal p s)
+data-refusal-once p s = no-second (λ r h. h)
 
 pub sel-refusal-once : (lens : List ℕ) (v : ℕ) → Once ℕ (λ r. r ≡ selRefusal lens v)
 sel-refusal-once lens v = no-second (λ r h. h)
@@ -59,6 +69,22 @@ key-after-once preset v = no-second (λ r h. h)
 
 pub resets-once : (preset : Bool) (v : ℕ) (key : Bool) → Once Bool (λ r. r ≡ resetsOf preset v key)
 resets-once preset v key = no-second (λ r h. h)
+
+-- ---- interrupt.rt
+pub ctrl-kept-once : (v : ℕ) → Once ℕ (λ r. r ≡ ctrlKept v)
+ctrl-kept-once v = no-second (λ r h. h)
+
+pub pending-once : (f : Flags) (mask : ℕ) → Once Bool (λ r. r ≡ pendingOf f mask)
+pending-once f mask = no-second (λ r h. h)
+
+pub pulled-once : (be : Bool) (mask : ℕ) (first second third : Bool) → Once Bool (λ r. r ≡ pulledBy be mask first second third)
+pulled-once be mask first second third = no-second (λ r h. h)
+
+pub be-after-once : (be : Bool) (number : ℕ) → Once Bool (λ r. r ≡ beAfter be number)
+be-after-once be number = no-second (λ r h. h)
+
+pub mask-in-once : (mask : ℕ) → Once Bool (λ r. r ≡ maskIn mask)
+mask-in-once mask = no-second (λ r h. h)
 
 -- ---- range.rt
 pub pointers-in-once : (p : Ptrs) → Once Bool (λ r. r ≡ pointersIn p)
@@ -105,8 +131,8 @@ byte-once x = no-second (λ r h. h .0)
 pub start-of-once : (lens : List ℕ) (v : ℕ) → Once ℕ (λ r. (r ≡ startOf lens v) × (r ≤ 255 * v))
 start-of-once lens v = no-second (λ r h. h .0)
 
-pub fits-once : (lens : List ℕ) (count : ℕ) → Once Bool (λ r. r ≡ fitting lens count)
-fits-once lens count = no-second (λ r h. h)
+pub fits-once : (lens : List ℕ) → Once Bool (λ r. r ≡ fitting lens)
+fits-once lens = no-second (λ r h. h)
 
 pub reads-once : (sla : ℕ) → Once Bool (λ r. r ≡ readsOf sla)
 reads-once sla = no-second (λ r h. h)

@@ -21,8 +21,9 @@ use Rattle.sequence.specs.declared.wires.Next.{Next}
 use Rattle.sequence.specs.declared.wires.Tail.{Tail}
 use Rattle.sequence.specs.declared.wires.Turn.{Turn}
 use Rattle.sequence.specs.Action.{digitOf, textOf}
+use Rattle.sequence.specs.Facts.{Exists, Ready}
 use Rattle.sequence.specs.Walk.{idle, waiting, toPhase, stoRecorded, seqRecorded, errorNoted, noFlags, nackFlags, faultFlags, lateFlags, lateWalk, endFlags, endWalk}
-use Rattle.sequence.specs.Wires.{turnOf, edgeBeat, haltedOf, reachOf, moveOf, Exists, nextOf, Ready, stopBy, againBy, maskedOf, beginningOf, restOf, endingOf, askOf}
+use Rattle.sequence.specs.Wires.{turnOf, edgeBeat, haltedOf, reachOf, moveOf, nextOf, stopBy, againBy, maskedOf, beginningOf, restOf, endingOf, askOf}
 use Rattle.promises.specs.Promise.{Once, no-second}
 
 -- ---- action.rt

@@ -6,18 +6,21 @@ use lib.Dec.{eqb, ltb, leb}
 use Rattle.laws.specs.Pick.{if_then_else_}
 use Rattle.rules.specs.declared.state.Phase.{Phase}
 use Rattle.rules.specs.declared.state.Phase.the-variants.{Idle, Address, Sending, Receiving, Stopping, Waiting}
+use Rattle.rules.specs.declared.access.Spot.{Spot}
+use Rattle.rules.specs.declared.access.Spot.the-variants.{At, Outside}
 use Rattle.rules.specs.declared.registers.Register.{Register}
 use Rattle.rules.specs.declared.registers.Register.the-variants.{Status, Control, Chstatus, Intmsk, Slatable, Tranconfig, Data, Transel, Tranofs, Bytecount, Setting, Preset}
+use Rattle.rules.specs.Numbers.{bufferSize, done, locked, pastTable, pastBuffer, manyTransactions}
 use Rattle.rules.specs.Registers.{activeOf}
 use Rattle.rules.specs.Tables.{startOf}
 
--- ---- refusals, in 01's order
+-- ---- nos. 3, 4 and 6, checked in that order
 
--- no. 3: a channel that is active (FRAMECNT to TIMEOUT)
+-- no. 3: channel active: write to FRAMECNT to TIMEOUT
 unfoldable pub busyRefusal : Phase → ℕ
-busyRefusal p = if activeOf p then 3 else 0
+busyRefusal p = if activeOf p then locked else done
 
--- no. 3 for TRANCONFIG: an active channel takes entry 0 alone, in Waiting
+-- no. 3: or TRANCONFIG (except entry 0 in Waiting)
 abbrev pub lockedOf : Phase → ℕ → Bool
 lockedOf Idle at = false
 lockedOf (Address n) at = true
@@ -26,57 +29,66 @@ lockedOf (Receiving n) at = true
 lockedOf Stopping at = true
 lockedOf Waiting at = ltb 0 at
 
--- no. 4: past a table's last entry
+-- no. 4: SLATABLE or BYTECOUNT past entry 63, TRANCONFIG past 64: past a table's last entry
 unfoldable pub pastRefusal : ℕ → ℕ → ℕ
-pastRefusal last at = if ltb last at then 4 else 0
+pastRefusal last at = if ltb last at then pastTable else done
 
--- no. 6: TRANCONFIG entry 0, the count, above 64
+-- no. 6: TRANCONFIG entry 0 above 64
 unfoldable pub tooMany : ℕ → ℕ → Bool
 tooMany at v = if eqb at 0 then ltb 64 v else false
 
--- no. 5: a place of the buffer that is 4,352 or more
-unfoldable pub placeRefusal : ℕ → ℕ
-placeRefusal at = if ltb at 4352 then 0 else 5
-
--- a write to SLATABLE
+-- a write to SLATABLE: no. 3, no. 4
 unfoldable pub slaRefusal : Phase → ℕ → ℕ
-slaRefusal p at = if activeOf p then 3 else pastRefusal 63 at
+slaRefusal p at = if activeOf p then locked else pastRefusal 63 at
 
--- a write to TRANCONFIG
+-- a write to TRANCONFIG: no. 3, no. 4, no. 6
 unfoldable pub confRefusal : Phase → ℕ → ℕ → ℕ
-confRefusal p at v = if lockedOf p at then 3 else if ltb 64 at then 4 else if tooMany at v then 6 else 0
+confRefusal p at v = if lockedOf p at then locked else if ltb 64 at then pastTable else if tooMany at v then manyTransactions else done
 
--- a write to DATA
-unfoldable pub dataRefusal : Phase → ℕ → ℕ
-dataRefusal p at = if activeOf p then 3 else placeRefusal at
+-- ---- no. 5: the buffer boundary
 
--- TRANSEL v: no. 5 where v is above 63 or its start is 4,352 or more
+-- TRANOFS o points at start plus o. No. 5 where the place is 4,352 or more
+unfoldable pub placeRefusal : ℕ → ℕ
+placeRefusal at = if ltb at bufferSize then done else pastBuffer
+
+-- TRANSEL v: no. 5 where v is above 63 or the place, its start, is 4,352 or more
 unfoldable pub selRefusal : List ℕ → ℕ → ℕ
-selRefusal lens v = if ltb 63 v then 5 else placeRefusal (startOf lens v)
+selRefusal lens v = if ltb 63 v then pastBuffer else placeRefusal (startOf lens v)
 
--- ---- what a write to CONTROL does to TP, TE and the pointers
+-- DATA uses its own pointer: the place of the buffer at which it stands
+unfoldable pub spotOf : ℕ → Spot
+spotOf at = if ltb at bufferSize then At at else Outside
 
--- TP and TE apply in Idle only
-unfoldable pub keptIf : Bool → Bool → Bool → Bool
-keptIf active old new = if active then old else new
+-- DATA at 4,352: no. 5
+abbrev pub spotRefusal : Spot → ℕ
+spotRefusal (At i) = done
+spotRefusal Outside = pastBuffer
 
--- a pointer reset zeroes the pointer
+-- a write to DATA: no. 3, no. 5
+unfoldable pub dataRefusal : Phase → Spot → ℕ
+dataRefusal p s = if activeOf p then locked else spotRefusal s
+
+-- ---- AIPTRRST and BPTRRST
+
+-- AIPTRRST zeroes the two table pointers, BPTRRST BYTECOUNT's
 unfoldable pub rewound : Bool → ℕ → ℕ
 rewound reset at = if reset then 0 else at
 
--- where the place is 4,352 or more, DATA points at 4,352
+-- where that is 4,352 or more, DATA points at 4,352
 unfoldable pub atMost : ℕ → ℕ
-atMost place = if ltb place 4352 then place else 4352
+atMost place = if ltb place bufferSize then place else bufferSize
 
 -- AIPTRRST points DATA at start plus TRANOFS
 unfoldable pub pointedAt : Bool → ℕ → ℕ → ℕ
 pointedAt aiptrrst place at = if aiptrrst then atMost place else at
 
--- no. 5 of AIPTRRST
+-- and the answer is no. 5
 unfoldable pub overrunOf : Bool → ℕ → Bool
-overrunOf aiptrrst place = if aiptrrst then leb 4352 place else false
+overrunOf aiptrrst place = if aiptrrst then leb bufferSize place else false
 
 -- ---- the key of PRESET
+
+-- whether a register is PRESET
 abbrev pub presetOf : Register → Bool
 presetOf (Status n) = false
 presetOf Control = false
@@ -98,3 +110,7 @@ keyAfter preset v = if preset then eqb v 0xA5 else false
 -- and then 5Ah resets
 unfoldable pub resetsOf : Bool → ℕ → Bool → Bool
 resetsOf preset v key = if preset then (if key then eqb v 0x5A else false) else false
+
+-- ---- CONTROL writes apply TP and TE (Idle only)
+unfoldable pub keptIf : Bool → Bool → Bool → Bool
+keptIf active old new = if active then old else new

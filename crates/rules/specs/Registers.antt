@@ -1,5 +1,5 @@
 -- Document 01, 'The part as the processor sees it': a channel's registers, and the bits of CONTROL, CHSTATUS and INTMSK.
-use Prim.Native.Nat.{ℕ, _+_, _-_, _*_, _/_, _%_, _<_}
+use Prim.Native.Nat.{ℕ, _+_, _-_, _*_, _/_, _%_}
 use mathlib.Core.Bool.{Bool, true, false}
 use lib.Dec.{eqb, ltb}
 use Rattle.laws.specs.Pick.{if_then_else_}
@@ -12,9 +12,9 @@ use Rattle.rules.specs.declared.registers.Register.the-variants.{Status,
 use Rattle.rules.specs.declared.registers.Place.{Place}
 use Rattle.rules.specs.declared.registers.Place.the-variants.{Here, Elsewhere}
 
--- +9 to +E: FRAMECNT, REFRATE, SCLL, SCLH, MODE, TIMEOUT; +F: PRESET
-unfoldable pub settingAt : ℕ → Register
-settingAt n = if eqb n 0xF then Preset else Setting (n - 0x9)
+-- 64c + n: STATUS n of channel c
+unfoldable pub statusPlace : ℕ → ℕ → Place
+statusPlace c a = if eqb (a / 64) c then Here (Status (a % 64)) else Elsewhere
 
 -- +0 to +8: CONTROL, CHSTATUS, INTMSK, SLATABLE, TRANCONFIG, DATA, TRANSEL, TRANOFS, BYTECOUNT
 unfoldable pub tableAt : ℕ → Register
@@ -28,48 +28,21 @@ tableAt n =
     if eqb n 0x6 then Transel else
     if eqb n 0x7 then Tranofs else Bytecount
 
--- the register at C0h, D0h or E0h + n
+-- +9 to +E: FRAMECNT, REFRATE, SCLL, SCLH, MODE, TIMEOUT; +F: PRESET
+unfoldable pub settingAt : ℕ → Register
+settingAt n = if eqb n 0xF then Preset else Setting (n - 0x9)
+
+-- C0h, D0h, E0h + n
 unfoldable pub registerAt : ℕ → Register
 registerAt n = if ltb 0x8 n then settingAt n else tableAt n
 
--- a register of which there are several is one of them: 64 STATUS, 6 settings
-abbrev pub Known : Register → Type 0
-Known (Status n) = n < 64
-Known Control = Unit {0}
-Known Chstatus = Unit {0}
-Known Intmsk = Unit {0}
-Known Slatable = Unit {0}
-Known Tranconfig = Unit {0}
-Known Data = Unit {0}
-Known Transel = Unit {0}
-Known Tranofs = Unit {0}
-Known Bytecount = Unit {0}
-Known (Setting n) = n < 6
-Known Preset = Unit {0}
-
--- 64c + n: STATUS n of channel c
-unfoldable pub statusPlace : ℕ → ℕ → Place
-statusPlace c a = if eqb (a / 64) c then Here (Status (a % 64)) else Elsewhere
-
+-- C0h, D0h, E0h: of channel c
 unfoldable pub registerPlace : ℕ → ℕ → Place
 registerPlace c a = if eqb (a / 16) (12 + c) then Here (registerAt (a % 16)) else Elsewhere
 
 -- what stands at address a for channel c, 0 to 2
 unfoldable pub placeOf : ℕ → ℕ → Place
 placeOf c a = if ltb 2 c then Elsewhere else if ltb a 0xC0 then statusPlace c a else registerPlace c a
-
-abbrev pub KnownPlace : Place → Type 0
-KnownPlace (Here r) = Known r
-KnownPlace Elsewhere = Unit {0}
-
--- active means not Idle; STA reads 1 then
-abbrev pub activeOf : Phase → Bool
-activeOf Idle = false
-activeOf (Address n) = true
-activeOf (Sending n) = true
-activeOf (Receiving n) = true
-activeOf Stopping = true
-activeOf Waiting = true
 
 -- the bit of weight w
 abbrev pub bitOf : ℕ → ℕ → Bool
@@ -87,6 +60,7 @@ commandOf v = record {
   aiptrrst = bitOf v 0x02;
 }
 
+-- a bit of weight w as a number
 unfoldable pub weigh : Bool → ℕ → ℕ
 weigh b w = if b then w else 0
 
@@ -103,3 +77,12 @@ chstatusValue f =
 -- INTMSK: bits 3 to 1 are kept 0
 abbrev pub maskKept : ℕ → ℕ
 maskKept v = v / 16 * 16 + v % 2
+
+-- Active means not Idle; STA reads 1 then
+abbrev pub activeOf : Phase → Bool
+activeOf Idle = false
+activeOf (Address n) = true
+activeOf (Sending n) = true
+activeOf (Receiving n) = true
+activeOf Stopping = true
+activeOf Waiting = true

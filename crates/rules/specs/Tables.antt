@@ -1,19 +1,24 @@
 -- What the tables say: where a transaction's bytes start, which transactions are skipped, and the first that is not.
-use Prim.Native.Nat.{ℕ, zero, suc, _+_, _-_, _%_, _≤_, _<_}
+use Prim.Native.Nat.{ℕ, zero, suc, _+_, _-_, _%_}
 use mathlib.Core.Bool.{Bool, false}
 use mathlib.Core.List.{List}
 use lib.ListN.{getD, set}
 use lib.Dec.{eqb, leb}
 use Rattle.laws.specs.Pick.{if_then_else_}
+use Rattle.rules.specs.Numbers.{bufferSize, doneStatus}
 
 -- the start of transaction v is the sum of the v lengths before it: entries 1 to v of TRANCONFIG
 unfoldable pub startOf : List ℕ → ℕ → ℕ
 startOf lens zero = 0
 startOf lens (suc v) = startOf lens v + getD lens (suc v) 0
 
--- the lengths of the first count transactions sum to at most 4,352
-unfoldable pub fitting : List ℕ → ℕ → Bool
-fitting lens count = leb (startOf lens count) 4352
+-- the lengths of the first count transactions summed
+abbrev pub sumOf : List ℕ → ℕ
+sumOf lens = startOf lens (getD lens 0 0)
+
+-- they sum to at most 4,352
+unfoldable pub fitting : List ℕ → Bool
+fitting lens = leb (sumOf lens) bufferSize
 
 -- bit 0 of a SLATABLE byte: 1 for a read
 abbrev pub readsOf : ℕ → Bool
@@ -36,14 +41,8 @@ firstSent sla lens from count = sentFrom sla lens from (count - from)
 -- 02h in the STATUS of the next `left` transactions from i
 unfoldable pub markFrom : List ℕ → ℕ → ℕ → List ℕ
 markFrom status i zero = status
-markFrom status i (suc left) = markFrom (set status i 0x02) (i + 1) left
+markFrom status i (suc left) = markFrom (set status i doneStatus) (i + 1) left
 
 -- a skipped one gets 02h when the walk passes it: each from `from` to before `to`
 abbrev pub marked : List ℕ → ℕ → ℕ → List ℕ
 marked status from to = markFrom status from (to - from)
-
--- transaction n is one of a frame that fits: what the range says of it
-pub record Running (lens : List ℕ) (n : ℕ) : Type 0 where
-  pub below : n < getD lens 0 0
-  pub few : getD lens 0 0 ≤ 64
-  pub fits : startOf lens (getD lens 0 0) ≤ 4352

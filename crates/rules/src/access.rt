@@ -1,18 +1,31 @@
 // Document 01, 'Numbers that an answer carries': refusals of an access to a register, pointers, and the reset key.
 ghost use mathlib.Core.Path.{_≡_};
-ghost use Rattle.rules.specs.Access.{busyRefusal, lockedOf, pastRefusal, tooMany, placeRefusal, slaRefusal, confRefusal, dataRefusal, selRefusal};
-ghost use Rattle.rules.specs.Access.{keptIf, rewound, atMost, pointedAt, overrunOf, presetOf, keyAfter, resetsOf};
+ghost use Rattle.rules.specs.Access.{busyRefusal, lockedOf, pastRefusal, tooMany, slaRefusal, confRefusal, placeRefusal, selRefusal, spotOf, spotRefusal, dataRefusal};
+ghost use Rattle.rules.specs.Access.{rewound, atMost, pointedAt, overrunOf, presetOf, keyAfter, resetsOf, keptIf};
+ghost use Rattle.rules.specs.Facts.{InBuffer};
+use crate::numbers::BUFFER;
+use crate::numbers::DONE;
+use crate::numbers::LOCKED;
+use crate::numbers::MANY_TRANSACTIONS;
+use crate::numbers::PAST_BUFFER;
+use crate::numbers::PAST_TABLE;
 use crate::registers::Register;
 use crate::registers::active;
 use crate::state::Phase;
 use crate::tables::start_of;
 
-// ---- the number that refuses an access, or 0
+// Where DATA's pointer stands: at a place of the buffer, or outside.
+pub enum Spot {
+    At(usize),
+    Outside,
+}
+
+// ---- nos. 3, 4 and 6
 
 pub fn busy_refusal(p: Phase) -> u8
     ensures { λ r. ⌜ r ≡ busyRefusal p ⌝ }
 {
-    if active(p) { 3 } else { 0 }
+    if active(p) { LOCKED } else { DONE }
 }
 
 fn locked(p: Phase, at: usize) -> bool
@@ -31,7 +44,7 @@ fn locked(p: Phase, at: usize) -> bool
 pub fn past_refusal(last: usize, at: usize) -> u8
     ensures { λ r. ⌜ r ≡ pastRefusal last at ⌝ }
 {
-    if last < at { 4 } else { 0 }
+    if last < at { PAST_TABLE } else { DONE }
 }
 
 fn too_many(at: usize, v: u8) -> bool
@@ -40,53 +53,77 @@ fn too_many(at: usize, v: u8) -> bool
     if at == 0 { 64 < v } else { false }
 }
 
-pub fn place_refusal(at: usize) -> u8
-    ensures { λ r. ⌜ r ≡ placeRefusal at ⌝ }
-{
-    if at < 4352 { 0 } else { 5 }
-}
-
 pub fn sla_refusal(p: Phase, at: usize) -> u8
     ensures { λ r. ⌜ r ≡ slaRefusal p at ⌝ }
 {
-    if active(p) { 3 } else { past_refusal(63, at) }
+    if active(p) {
+        LOCKED
+    } else {
+        past_refusal(63, at)
+    }
 }
 
 pub fn conf_refusal(p: Phase, at: usize, v: u8) -> u8
     ensures { λ r. ⌜ r ≡ confRefusal p at v ⌝ }
 {
     if locked(p, at) {
-        return 3;
+        return LOCKED;
     }
     if 64 < at {
-        return 4;
+        return PAST_TABLE;
     }
-    if too_many(at, v) { 6 } else { 0 }
+    if too_many(at, v) {
+        MANY_TRANSACTIONS
+    } else {
+        DONE
+    }
 }
 
-pub fn data_refusal(p: Phase, at: usize) -> u8
-    ensures { λ r. ⌜ r ≡ dataRefusal p at ⌝ }
+// ---- no. 5: the buffer boundary
+
+pub fn place_refusal(at: usize) -> u8
+    ensures { λ r. ⌜ r ≡ placeRefusal at ⌝ }
 {
-    if active(p) { 3 } else { place_refusal(at) }
+    if at < BUFFER { DONE } else { PAST_BUFFER }
 }
 
 pub fn sel_refusal(lens: &[u8; 65], v: u8) -> u8
     ensures { λ r. ⌜ r ≡ selRefusal (now (lens .entry)) v ⌝ }
 {
     if 63 < v {
-        return 5;
+        return PAST_BUFFER;
     }
     let start = start_of(lens, v as usize);
     place_refusal(start)
 }
 
-// ---- a write to CONTROL: TP and TE, and the pointers
-
-pub fn kept_if(active: bool, old: bool, new: bool) -> bool
-    ensures { λ r. ⌜ r ≡ keptIf active old new ⌝ }
+// Finds the place of the buffer at which DATA's pointer stands.
+pub fn find_place(at: usize) -> Spot
+    ensures { λ r. ⌜ (r ≡ spotOf at) × InBuffer r ⌝ }
 {
-    if active { old } else { new }
+    if at < BUFFER {
+        Spot::At(at)
+    } else {
+        Spot::Outside
+    }
 }
+
+pub fn spot_refusal(s: Spot) -> u8
+    ensures { λ r. ⌜ r ≡ spotRefusal s ⌝ }
+{
+    match s {
+        Spot::At(_) => DONE,
+        Spot::Outside => PAST_BUFFER,
+    }
+}
+
+pub fn data_refusal(p: Phase, s: Spot) -> u8
+    ensures { λ r. ⌜ r ≡ dataRefusal p s ⌝ }
+{
+    if active(p) { LOCKED } else { spot_refusal(s) }
+}
+
+// ---- AIPTRRST and BPTRRST
 
 pub fn rewind(reset: bool, at: usize) -> usize
     ensures { λ r. ⌜ r ≡ rewound reset at ⌝ }
@@ -97,7 +134,7 @@ pub fn rewind(reset: bool, at: usize) -> usize
 fn at_most(place: usize) -> usize
     ensures { λ r. ⌜ r ≡ atMost place ⌝ }
 {
-    if place < 4352 { place } else { 4352 }
+    if place < BUFFER { place } else { BUFFER }
 }
 
 pub fn point_at(aiptrrst: bool, place: usize, at: usize) -> usize
@@ -109,7 +146,7 @@ pub fn point_at(aiptrrst: bool, place: usize, at: usize) -> usize
 pub fn overrun(aiptrrst: bool, place: usize) -> bool
     ensures { λ r. ⌜ r ≡ overrunOf aiptrrst place ⌝ }
 {
-    if aiptrrst { 4352 <= place } else { false }
+    if aiptrrst { BUFFER <= place } else { false }
 }
 
 // ---- the key of PRESET
@@ -149,4 +186,12 @@ pub fn resets(preset: bool, v: u8, key: bool) -> bool
     } else {
         false
     }
+}
+
+// ---- CONTROL: TP and TE
+
+pub fn kept_if(active: bool, old: bool, new: bool) -> bool
+    ensures { λ r. ⌜ r ≡ keptIf active old new ⌝ }
+{
+    if active { old } else { new }
 }

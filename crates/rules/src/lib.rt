@@ -1,13 +1,17 @@
-// The rules of document 01 that need no record of a channel: its enums and parts, and the decisions and loops on registers, tables and the range.
+// The rules of document 01 that need no record of a channel: its enums and parts, and the decisions and loops on registers, the interrupt, tables and the range.
 mod access;
+mod interrupt;
+mod numbers;
 mod range;
 mod registers;
 mod state;
 mod tables;
 
+pub use access::Spot;
 pub use access::busy_refusal;
 pub use access::conf_refusal;
 pub use access::data_refusal;
+pub use access::find_place;
 pub use access::is_preset;
 pub use access::kept_if;
 pub use access::key_after;
@@ -19,6 +23,29 @@ pub use access::resets;
 pub use access::rewind;
 pub use access::sel_refusal;
 pub use access::sla_refusal;
+pub use access::spot_refusal;
+pub use interrupt::be_after;
+pub use interrupt::ctrl_kept;
+pub use interrupt::mask_in;
+pub use interrupt::pending;
+pub use interrupt::pulled;
+pub use numbers::ADDRESS_REFUSED;
+pub use numbers::BUFFER;
+pub use numbers::DATA_REFUSED;
+pub use numbers::DONE;
+pub use numbers::DONE_STATUS;
+pub use numbers::LOCKED;
+pub use numbers::MANY_TRANSACTIONS;
+pub use numbers::MEMORY;
+pub use numbers::NOT_AWAITED;
+pub use numbers::NOT_BEGUN;
+pub use numbers::NOWHERE;
+pub use numbers::OUT_OF_RANGE;
+pub use numbers::PAST_BUFFER;
+pub use numbers::PAST_TABLE;
+pub use numbers::READ_ONLY;
+pub use numbers::UNDERWAY;
+pub use numbers::UNREADABLE;
 pub use range::frame_in;
 pub use range::pointers_in;
 pub use range::registers_in;

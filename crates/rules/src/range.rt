@@ -1,8 +1,9 @@
 // Document 01, 'Out of range': its clauses over the parts of a channel's record.
 ghost use mathlib.Core.Path.{_≡_};
-ghost use Prim.Native.Nat.{_+_, _<_, _≤_};
+ghost use Prim.Native.Nat.{_<_, _≤_};
 ghost use lib.ListN.{getD};
-ghost use Rattle.rules.specs.Range.{pointersIn, registersIn, countingOf, endedIn, blankOf, recordedIn, walkIn, clearAfter, currentAt, standing, countedIn, frameAt, frameIn};
+ghost use Rattle.rules.specs.Range.{pointersIn, registersIn, countingOf, endedIn, blankOf, recordedIn, walkIn, standing, countedIn, clearAfter, countsIn, frameAt, frameIn};
+use crate::numbers::BUFFER;
 use crate::registers::active;
 use crate::state::Phase;
 use crate::state::Ptrs;
@@ -23,7 +24,7 @@ pub fn pointers_in(p: Ptrs) -> bool
     if 65 < p.conf {
         return false;
     }
-    if 4352 < p.buf {
+    if BUFFER < p.buf {
         return false;
     }
     true
@@ -100,39 +101,15 @@ pub fn walk_in(w: Walk, te: bool, framecnt: u8) -> bool
     }
 }
 
-// Whether every entry from `from` to 63 is 0.
-fn clear_after(counts: &[u8; 64], from: usize) -> bool
-    ensures { λ r. ⌜ r ≡ clearAfter (now (counts .entry)) from ⌝ }
-{
-    let mut i = from;
-    while i < 64 {
-        if counts[i] != 0 {
-            return false;
-        }
-        i += 1;
-    }
-    true
-}
-
-fn current<'a>(n: usize, sla: &'a [u8; 64], lens: &'a [u8; 65], counts: &'a [u8; 64]) -> bool
-    requires { ⌜ n < 64 ⌝ }
-    ensures { λ r. ⌜ r ≡ currentAt n (now (sla .entry)) (now (lens .entry)) (now (counts .entry)) ⌝ }
-{
-    if skipped(sla[n], lens[n + 1]) {
-        return false;
-    }
-    clear_after(counts, n + 1)
-}
-
-fn stands<'a>(n: usize, sla: &'a [u8; 64], lens: &'a [u8; 65], counts: &'a [u8; 64]) -> bool
+// Whether a frame that fits has transaction n, and does not skip it.
+fn stands<'a>(n: usize, sla: &'a [u8; 64], lens: &'a [u8; 65]) -> bool
     requires { ⌜ getD (now lens) 0 0 ≤ 64 ⌝ }
-    ensures { λ r. ⌜ r ≡ standing n (now (sla .entry)) (now (lens .entry)) (now (counts .entry)) ⌝ }
+    ensures { λ r. ⌜ r ≡ standing n (now (sla .entry)) (now (lens .entry)) ⌝ }
 {
-    let first = lens[0];
-    let count = first as usize;
-    if n < count {
-        if fits(lens, count) {
-            current(n, sla, lens, counts)
+    if fits(lens) {
+        let count = lens[0];
+        if n < count as usize {
+            !skipped(sla[n], lens[n + 1])
         } else {
             false
         }
@@ -154,7 +131,21 @@ fn counted_in(p: Phase, sla: u8, len: u8, count: u8) -> bool
     }
 }
 
-fn counted_at<'a>(
+// Whether every entry from `from` to 63 is 0.
+fn clear_after(counts: &[u8; 64], from: usize) -> bool
+    ensures { λ r. ⌜ r ≡ clearAfter (now (counts .entry)) from ⌝ }
+{
+    let mut i = from;
+    while i < 64 {
+        if counts[i] != 0 {
+            return false;
+        }
+        i += 1;
+    }
+    true
+}
+
+fn counts_in<'a>(
     p: Phase,
     n: usize,
     sla: &'a [u8; 64],
@@ -162,9 +153,13 @@ fn counted_at<'a>(
     counts: &'a [u8; 64],
 ) -> bool
     requires { ⌜ n < 64 ⌝ }
-    ensures { λ r. ⌜ r ≡ countedIn p (getD (now (sla .entry)) n 0) (getD (now (lens .entry)) (n + 1) 0) (getD (now (counts .entry)) n 0) ⌝ }
+    ensures { λ r. ⌜ r ≡ countsIn p n (now (sla .entry)) (now (lens .entry)) (now (counts .entry)) ⌝ }
 {
-    counted_in(p, sla[n], lens[n + 1], counts[n])
+    if counted_in(p, sla[n], lens[n + 1], counts[n]) {
+        clear_after(counts, n + 1)
+    } else {
+        false
+    }
 }
 
 fn frame_at<'a>(
@@ -177,8 +172,8 @@ fn frame_at<'a>(
     requires { ⌜ getD (now lens) 0 0 ≤ 64 ⌝ }
     ensures { λ r. ⌜ r ≡ frameAt p n (now (sla .entry)) (now (lens .entry)) (now (counts .entry)) ⌝ }
 {
-    if stands(n, sla, lens, counts) {
-        counted_at(p, n, sla, lens, counts)
+    if stands(n, sla, lens) {
+        counts_in(p, n, sla, lens, counts)
     } else {
         false
     }

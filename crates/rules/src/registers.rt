@@ -1,8 +1,9 @@
 // Document 01, 'The part as the processor sees it': where a channel's registers stand, and the bits of CONTROL, CHSTATUS and INTMSK.
 ghost use mathlib.Core.Path.{_≡_};
 ghost use Prim.Native.Nat.{_<_, _≤_};
-ghost use Rattle.rules.specs.Registers.{settingAt, tableAt, registerAt, Known, statusPlace, registerPlace, placeOf, KnownPlace};
-ghost use Rattle.rules.specs.Registers.{activeOf, bitOf, commandOf, weigh, controlValue, chstatusValue, maskKept};
+ghost use Rattle.rules.specs.Registers.{statusPlace, tableAt, settingAt, registerAt, registerPlace, placeOf};
+ghost use Rattle.rules.specs.Registers.{bitOf, commandOf, weigh, controlValue, chstatusValue, maskKept, activeOf};
+ghost use Rattle.rules.specs.Facts.{Known, KnownPlace};
 use crate::state::Flags;
 use crate::state::Phase;
 
@@ -39,14 +40,13 @@ pub struct Command {
     pub aiptrrst: bool,
 }
 
-fn setting_at(n: u8) -> Register
-    requires { ⌜ (8 < n) × (n < 16) ⌝ }
-    ensures { λ r. ⌜ (r ≡ settingAt n) × Known r ⌝ }
+fn status_place(c: u8, a: u8) -> Place
+    ensures { λ r. ⌜ (r ≡ statusPlace c a) × KnownPlace r ⌝ }
 {
-    if n == 0xF {
-        Register::Preset
+    if a / 64 == c {
+        Place::Here(Register::Status((a % 64) as usize))
     } else {
-        Register::Setting(n as usize - 9)
+        Place::Elsewhere
     }
 }
 
@@ -67,21 +67,22 @@ fn table_at(n: u8) -> Register
     }
 }
 
+fn setting_at(n: u8) -> Register
+    requires { ⌜ (8 < n) × (n < 16) ⌝ }
+    ensures { λ r. ⌜ (r ≡ settingAt n) × Known r ⌝ }
+{
+    if n == 0xF {
+        Register::Preset
+    } else {
+        Register::Setting(n as usize - 9)
+    }
+}
+
 fn register_at(n: u8) -> Register
     requires { ⌜ n < 16 ⌝ }
     ensures { λ r. ⌜ (r ≡ registerAt n) × Known r ⌝ }
 {
     if 8 < n { setting_at(n) } else { table_at(n) }
-}
-
-fn status_place(c: u8, a: u8) -> Place
-    ensures { λ r. ⌜ (r ≡ statusPlace c a) × KnownPlace r ⌝ }
-{
-    if a / 64 == c {
-        Place::Here(Register::Status((a % 64) as usize))
-    } else {
-        Place::Elsewhere
-    }
 }
 
 fn register_place(c: u8, a: u8) -> Place
@@ -106,19 +107,6 @@ pub fn place_of(c: u8, a: u8) -> Place
         return status_place(c, a);
     }
     register_place(c, a)
-}
-
-pub fn active(p: Phase) -> bool
-    ensures { λ r. ⌜ r ≡ activeOf p ⌝ }
-{
-    match p {
-        Phase::Idle => false,
-        Phase::Address(_) => true,
-        Phase::Sending(_) => true,
-        Phase::Receiving(_) => true,
-        Phase::Stopping => true,
-        Phase::Waiting => true,
-    }
 }
 
 pub fn bit(v: u8, w: u8) -> bool
@@ -172,4 +160,17 @@ pub fn mask_kept(v: u8) -> u8
     ensures { λ r. ⌜ r ≡ maskKept v ⌝ }
 {
     v / 16 * 16 + v % 2
+}
+
+pub fn active(p: Phase) -> bool
+    ensures { λ r. ⌜ r ≡ activeOf p ⌝ }
+{
+    match p {
+        Phase::Idle => false,
+        Phase::Address(_) => true,
+        Phase::Sending(_) => true,
+        Phase::Receiving(_) => true,
+        Phase::Stopping => true,
+        Phase::Waiting => true,
+    }
 }

@@ -1,8 +1,10 @@
 // What the tables say: starts, skipped transactions, and the first that is not skipped.
 ghost use mathlib.Core.Path.{_≡_};
 ghost use Prim.Native.Nat.{_*_, _<_, _≤_};
-ghost use lib.ListN.{length, replicate};
+ghost use lib.ListN.{getD, length, replicate};
 ghost use Rattle.rules.specs.Tables.{startOf, fitting, readsOf, skippedOf, firstSent, marked};
+use crate::numbers::BUFFER;
+use crate::numbers::DONE_STATUS;
 
 // A byte as an index: the number, and that it is below 256, which a caller's arithmetic wants.
 pub fn byte(x: u8) -> usize
@@ -26,11 +28,12 @@ pub fn start_of(lens: &[u8; 65], v: usize) -> usize
 }
 
 // Whether the lengths of the first count transactions fit the buffer.
-pub fn fits(lens: &[u8; 65], count: usize) -> bool
-    requires { ⌜ count ≤ 64 ⌝ }
-    ensures { λ r. ⌜ r ≡ fitting (now (lens .entry)) count ⌝ }
+pub fn fits(lens: &[u8; 65]) -> bool
+    requires { ⌜ getD (now lens) 0 0 ≤ 64 ⌝ }
+    ensures { λ r. ⌜ r ≡ fitting (now (lens .entry)) ⌝ }
 {
-    start_of(lens, count) <= 4352
+    let count = lens[0];
+    start_of(lens, count as usize) <= BUFFER
 }
 
 pub fn reads(sla: u8) -> bool
@@ -70,7 +73,7 @@ pub fn mark(status: &mut [u8; 64], from: usize, to: usize)
 {
     let mut i = from;
     while i < to {
-        status[i] = 0x02;
+        status[i] = DONE_STATUS;
         i += 1;
     }
 }

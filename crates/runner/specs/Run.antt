@@ -15,9 +15,9 @@ abbrev pub start : Part → List ℕ → State
 start p m = record { part = p; memory = m }
 
 -- a step is answered by the part's rules; what can't be read is answered no. 8
-abbrev pub answered : State → Line → PartAnswer
-answered s (Readable a) = thePart .answer s a
-answered s Unreadable = noAnswer
+abbrev pub lineAnswer : State → Line → PartAnswer
+lineAnswer s (Readable a) = thePart .answer s a
+lineAnswer s Unreadable = noAnswer
 
 -- and leaves all
 abbrev pub afterLine : State → Line → State
@@ -32,7 +32,7 @@ ownerOfLine Unreadable = 3
 -- the script as a machine: a step is the bytes of a line
 abbrev pub theScript : Machine State (List ℕ) PartAnswer
 theScript = record {
-  answer = λ s l. answered s (lineOf l);
+  answer = λ s l. lineAnswer s (lineOf l);
   after = λ s l. afterLine s (lineOf l);
   owner = λ l. ownerOfLine (lineOf l);
 }

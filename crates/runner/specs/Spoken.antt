@@ -3,7 +3,8 @@
 use Prim.Native.Nat.{ℕ}
 use mathlib.Core.List.{List, [], _∷_}
 use mathlib.Core.Path.{_≡_, refl}
-use Rattle.mixes.specs.Mix.{Mix, All, OfSome, stepsOf, ends}
+use Rattle.laws.specs.Lists.{All}
+use Rattle.mixes.specs.Mix.{Mix, OfSome, stepsOf, ends}
 use Rattle.independent.specs.Statement.{State, Accepted, Independent}
 use Rattle.independent.specs.Laws.Mixed.{mixed, any-order}
 use Rattle.runner.specs.Run.{theScript}

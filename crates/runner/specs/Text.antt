@@ -1,5 +1,4 @@
--- WHAT A SCRIPT'S BYTES COME TO: its lines, each a step of the part, and a line of text for each. What the program hands to `write` is `outputOf` of what
--- stood in its block after each `read`.
+-- WHAT A SCRIPT'S BYTES COME TO: its lines, each a step of the part, and a line of text for each. How far the program is proved to keep to it, docs/PROMISES.md says.
 use Prim.Native.Nat.{ℕ, _+_}
 use mathlib.Core.List.{List, [], _∷_, _++_}
 use lib.Dec.{eqb}

@@ -3,9 +3,8 @@ ghost use mathlib.Core.Path.{_≡_};
 ghost use Prim.Native.Nat.{_≤_};
 ghost use lib.Dec.{ltb};
 ghost use lib.ListN.{length};
-ghost use Rattle.part.specs.Map.{InPart};
 ghost use Rattle.part.specs.Rows.{rowsIn, rowsLeft, found, Ready, Gives};
-ghost use Rattle.part.specs.Step.{Whole};
+ghost use Rattle.part.specs.Facts.{InPart, Whole};
 ghost use Rattle.runner.specs.Performing.{aimAt, aimOf, InAim, restServed, restStored};
 ghost use Rattle.runner.specs.Text.{numberAfter};
 ghost use Rattle.runner.specs.Feeding.{Room, Answered};
@@ -64,16 +63,15 @@ fn perform(
     lens: &mut [[u8; 65]; 3],
     status: &mut [[u8; 64]; 3],
     counts: &mut [[u8; 64]; 3],
-    settings: &mut [[u8; 6]; 3],
     mem: &mut [u8],
     t: Rest,
 ) -> HeadsStepped
-    requires { ⌜ Ready heads (rowsIn sla lens status counts settings) (now mem) ⌝ }
-    ensures { λ r. ⌜ Gives (restServed (found heads sla lens status counts settings) t) r (rowsLeft sla lens status counts settings)
-        × (now (mem .exit) ≡ restStored (found heads sla lens status counts settings) (now (mem .entry)) t) ⌝ }
+    requires { ⌜ Ready heads (rowsIn sla lens status counts) (now mem) ⌝ }
+    ensures { λ r. ⌜ Gives (restServed (found heads sla lens status counts) t) r (rowsLeft sla lens status counts)
+        × (now (mem .exit) ≡ restStored (found heads sla lens status counts) (now (mem .entry)) t) ⌝ }
 {
     match t {
-        Rest::All(w) => heads.all(sla, lens, status, counts, settings, mem, w),
+        Rest::All(w) => heads.all(sla, lens, status, counts, mem, w),
         Rest::Unread => HeadsStepped {
             heads,
             answer: script::unreadable(),
@@ -109,15 +107,7 @@ pub fn answer_lines(s: Course, block: &[u8], mem: &mut [u8], out: &mut [u8]) -> 
     let mut lens = [[0u8; 65]; 3];
     let mut status = [[0u8; 64]; 3];
     let mut counts = [[0u8; 64]; 3];
-    let mut settings = [[0u8; 6]; 3];
-    let mut heads = part::spread(
-        p,
-        &mut sla,
-        &mut lens,
-        &mut status,
-        &mut counts,
-        &mut settings,
-    );
+    let mut heads = part::spread(p, &mut sla, &mut lens, &mut status, &mut counts);
     let mut step = s.step;
     let mut from = s.from;
     let mut at = s.at;
@@ -138,7 +128,6 @@ pub fn answer_lines(s: Course, block: &[u8], mem: &mut [u8], out: &mut [u8]) -> 
                     &mut lens,
                     &mut status,
                     &mut counts,
-                    &mut settings,
                     mem,
                     c,
                     op,
@@ -151,16 +140,7 @@ pub fn answer_lines(s: Course, block: &[u8], mem: &mut [u8], out: &mut [u8]) -> 
                 answer = reply;
             }
             Aim::Others(t) => {
-                let r = perform(
-                    heads,
-                    &mut sla,
-                    &mut lens,
-                    &mut status,
-                    &mut counts,
-                    &mut settings,
-                    mem,
-                    t,
-                );
+                let r = perform(heads, &mut sla, &mut lens, &mut status, &mut counts, mem, t);
                 let after = r.heads;
                 heads = after;
                 let reply = r.answer;
@@ -173,7 +153,7 @@ pub fn answer_lines(s: Course, block: &[u8], mem: &mut [u8], out: &mut [u8]) -> 
         end = line_end(block, from);
     }
     Course {
-        part: heads.gather(&sla, &lens, &status, &counts, &settings),
+        part: heads.gather(&sla, &lens, &status, &counts),
         step,
         from,
         at,

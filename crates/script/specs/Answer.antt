@@ -9,6 +9,7 @@ use lib.Seq.{sets}
 use Rattle.laws.specs.Pick.{if_then_else_}
 use Rattle.part.specs.declared.state.Act.{Act}
 use Rattle.part.specs.declared.state.PartAnswer.{PartAnswer}
+use Rattle.rules.specs.Numbers.{unreadable}
 use Rattle.part.specs.State.{quiet}
 use Rattle.sequence.specs.Action.{digitOf, textOf}
 use Rattle.sequence.specs.declared.wires.Action.{Action}
@@ -78,15 +79,15 @@ abbrev pub orOf : Bool → Bool → Bool
 orOf a b = if a then a else b
 
 -- the actions of channels 0, 1 and 2, joined by commas, lowest channel first, or `-` (45)
-abbrev pub joined : Action → Action → Action → List ℕ
-joined a b c =
+abbrev pub byCommas : Action → Action → Action → List ℕ
+byCommas a b c =
     actionOf false 0 a
     ++ (actionOf (busyOf a) 1 b
     ++ (actionOf (orOf (busyOf a) (busyOf b)) 2 c
     ++ onlyIf (not (orOf (orOf (busyOf a) (busyOf b)) (busyOf c))) 45))
 
 unfoldable pub actionsOf : List Act → List ℕ
-actionsOf l = joined (actionAt l 0) (actionAt l 1) (actionAt l 2)
+actionsOf l = byCommas (actionAt l 0) (actionAt l 1) (actionAt l 2)
 
 -- step number, answer number, value, INT, actions, and LF
 unfoldable pub answerLine : ℕ → PartAnswer → Bool → List ℕ
@@ -102,7 +103,7 @@ answerLine step reply int =
 abbrev pub header : List ℕ
 header = ascii "step code value int actions\n"
 
--- a line has at most 51 bytes; it is put only where so many are left
+-- a line has at most 51 bytes; it is put only where 80 are left
 abbrev pub answerRoom : ℕ
 answerRoom = 80
 
@@ -111,4 +112,4 @@ roomy len at = leb (at + answerRoom) len
 
 -- the answer to a line that can't be read: no. 8, value 00, no action
 abbrev pub noAnswer : PartAnswer
-noAnswer = record { number = 8; value = 0; actions = quiet }
+noAnswer = record { number = unreadable; value = 0; actions = quiet }

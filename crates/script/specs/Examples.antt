@@ -11,27 +11,27 @@ use Rattle.sequence.specs.declared.wires.Action.the-variants.{Nothing, S, Np}
 use Rattle.sequence.specs.declared.wires.Event.the-variants.{Byte, Stop}
 use Rattle.script.specs.Answer.{digitsOf, levelOf, textIf, actionOf, actionsOf, answerLine}
 use Rattle.script.specs.Ascii.{ascii}
-use Rattle.script.specs.Grammar.{isHex, hexOf, suiting, fitting, faultLine, clockLine, eventLine, edgeLine, lineOf}
+use Rattle.script.specs.Grammar.{isHex, hexOf, suiting, inForm, faultLine, clockLine, eventLine, edgeLine, lineOf}
 use Rattle.script.specs.declared.reading.Line.the-variants.{Readable, Unreadable}
 
 read-write : lineOf (ascii "W C5 7E") ≡ Readable (Write 0xC5 0x7E)
-unfolding lineOf fitting suiting isHex hexOf if_then_else_
+unfolding lineOf inForm suiting isHex hexOf if_then_else_
 read-write = refl
 
 read-stop : lineOf (ascii "E 0 STOP") ≡ Readable (Wire 0 Stop)
-unfolding lineOf edgeLine eventLine clockLine fitting suiting isHex hexOf if_then_else_
+unfolding lineOf edgeLine eventLine clockLine inForm suiting isHex hexOf if_then_else_
 read-stop = refl
 
 read-byte : lineOf (ascii "E F BYTE 0A") ≡ Readable (Wire 15 (Byte 10))
-unfolding lineOf edgeLine eventLine fitting suiting isHex hexOf if_then_else_
+unfolding lineOf edgeLine eventLine inForm suiting isHex hexOf if_then_else_
 read-byte = refl
 
 lower-case : lineOf (ascii "W c5 7E") ≡ Unreadable
-unfolding lineOf edgeLine eventLine clockLine faultLine fitting suiting isHex if_then_else_
+unfolding lineOf edgeLine eventLine clockLine faultLine inForm suiting isHex if_then_else_
 lower-case = refl
 
 empty : lineOf [] ≡ Unreadable
-unfolding lineOf edgeLine eventLine clockLine faultLine fitting if_then_else_
+unfolding lineOf edgeLine eventLine clockLine faultLine inForm if_then_else_
 empty = refl
 
 does : Action → Act

@@ -39,11 +39,11 @@ unfoldable pub suiting : ℕ → ℕ → Bool
 suiting letter b = if leb 97 letter then isHex b else eqb b letter
 
 -- a line has a form: it has as many bytes, and each suits its letter; nothing before, between or after them
-unfoldable pub fitting : List ℕ → List ℕ → Bool
-fitting [] [] = true
-fitting [] (b ∷ l) = false
-fitting (letter ∷ form) [] = false
-fitting (letter ∷ form) (b ∷ l) = if suiting letter b then fitting form l else false
+unfoldable pub inForm : List ℕ → List ℕ → Bool
+inForm [] [] = true
+inForm [] (b ∷ l) = false
+inForm (letter ∷ form) [] = false
+inForm (letter ∷ form) (b ∷ l) = if suiting letter b then inForm form l else false
 
 -- `E c ..`: an event of channel c
 abbrev pub wireLine : List ℕ → Event → Line
@@ -52,37 +52,37 @@ wireLine l e = Readable (Wire (digitAt l 2) e)
 -- `E c SDA`, `E c SCL`, `E c ILL`; any other line can't be read
 unfoldable pub faultLine : List ℕ → Line
 faultLine l =
-    if fitting (ascii "E c SDA") l then wireLine l Sda
-    else if fitting (ascii "E c SCL") l then wireLine l Scl
-    else if fitting (ascii "E c ILL") l then wireLine l Ill
+    if inForm (ascii "E c SDA") l then wireLine l Sda
+    else if inForm (ascii "E c SCL") l then wireLine l Scl
+    else if inForm (ascii "E c ILL") l then wireLine l Ill
     else Unreadable
 
 -- `E c TICK`, `E c STOP`
 unfoldable pub clockLine : List ℕ → Line
 clockLine l =
-    if fitting (ascii "E c TICK") l then wireLine l Tick
-    else if fitting (ascii "E c STOP") l then wireLine l Stop
+    if inForm (ascii "E c TICK") l then wireLine l Tick
+    else if inForm (ascii "E c STOP") l then wireLine l Stop
     else faultLine l
 
 -- `E c ACK`, `E c NACK`, `E c BYTE bb`
 unfoldable pub eventLine : List ℕ → Line
 eventLine l =
-    if fitting (ascii "E c ACK") l then wireLine l Ack
-    else if fitting (ascii "E c NACK") l then wireLine l Nack
-    else if fitting (ascii "E c BYTE bb") l then wireLine l (Byte (byteAt l 9))
+    if inForm (ascii "E c ACK") l then wireLine l Ack
+    else if inForm (ascii "E c NACK") l then wireLine l Nack
+    else if inForm (ascii "E c BYTE bb") l then wireLine l (Byte (byteAt l 9))
     else clockLine l
 
 -- `T R` or `T F`
 unfoldable pub edgeLine : List ℕ → Line
 edgeLine l =
-    if fitting (ascii "T R") l then Readable (Trigger Rising)
-    else if fitting (ascii "T F") l then Readable (Trigger Falling)
+    if inForm (ascii "T R") l then Readable (Trigger Rising)
+    else if inForm (ascii "T F") l then Readable (Trigger Falling)
     else eventLine l
 
 -- a step a line: `W aa dd`, `R aa`, `X` (hardware reset), or one of the above
 unfoldable pub lineOf : List ℕ → Line
 lineOf l =
-    if fitting (ascii "W aa dd") l then Readable (Write (byteAt l 2) (byteAt l 5))
-    else if fitting (ascii "R aa") l then Readable (Read (byteAt l 2))
-    else if fitting (ascii "X") l then Readable Reset
+    if inForm (ascii "W aa dd") l then Readable (Write (byteAt l 2) (byteAt l 5))
+    else if inForm (ascii "R aa") l then Readable (Read (byteAt l 2))
+    else if inForm (ascii "X") l then Readable Reset
     else edgeLine l

@@ -1,7 +1,7 @@
 // A line of the script: the step that it asks for, or that it can't be read.
 ghost use mathlib.Core.Path.{_≡_};
 ghost use Prim.Native.Nat.{_<_};
-ghost use Rattle.script.specs.Grammar.{lineRoom, isHex, hexOf, digitAt, byteAt, suiting, fitting, wireLine, lineOf, edgeLine, eventLine, clockLine, faultLine};
+ghost use Rattle.script.specs.Grammar.{lineRoom, isHex, hexOf, digitAt, byteAt, suiting, inForm, wireLine, lineOf, edgeLine, eventLine, clockLine, faultLine};
 use part::Step;
 use sequence::Edge;
 use sequence::Event;
@@ -58,8 +58,8 @@ fn suits(letter: u8, b: u8) -> bool
     if 97 <= letter { is_hex(b) } else { b == letter }
 }
 
-fn fits(form: &[u8], line: &[u8]) -> bool
-    ensures { λ r. ⌜ r ≡ fitting (now (form .entry)) (now (line .entry)) ⌝ }
+fn in_form(form: &[u8], line: &[u8]) -> bool
+    ensures { λ r. ⌜ r ≡ inForm (now (form .entry)) (now (line .entry)) ⌝ }
 {
     if form.len() != line.len() {
         return false;
@@ -92,13 +92,13 @@ fn byte_event(line: &[u8]) -> Line
 fn read_fault(line: &[u8]) -> Line
     ensures { λ r. ⌜ r ≡ faultLine (now (line .entry)) ⌝ }
 {
-    if fits(b"E c SDA", line) {
+    if in_form(b"E c SDA", line) {
         return wire(line, Event::Sda);
     }
-    if fits(b"E c SCL", line) {
+    if in_form(b"E c SCL", line) {
         return wire(line, Event::Scl);
     }
-    if fits(b"E c ILL", line) {
+    if in_form(b"E c ILL", line) {
         return wire(line, Event::Ill);
     }
     Line::Unreadable
@@ -107,10 +107,10 @@ fn read_fault(line: &[u8]) -> Line
 fn read_clock(line: &[u8]) -> Line
     ensures { λ r. ⌜ r ≡ clockLine (now (line .entry)) ⌝ }
 {
-    if fits(b"E c TICK", line) {
+    if in_form(b"E c TICK", line) {
         return wire(line, Event::Tick);
     }
-    if fits(b"E c STOP", line) {
+    if in_form(b"E c STOP", line) {
         return wire(line, Event::Stop);
     }
     read_fault(line)
@@ -119,13 +119,13 @@ fn read_clock(line: &[u8]) -> Line
 fn read_event(line: &[u8]) -> Line
     ensures { λ r. ⌜ r ≡ eventLine (now (line .entry)) ⌝ }
 {
-    if fits(b"E c ACK", line) {
+    if in_form(b"E c ACK", line) {
         return wire(line, Event::Ack);
     }
-    if fits(b"E c NACK", line) {
+    if in_form(b"E c NACK", line) {
         return wire(line, Event::Nack);
     }
-    if fits(b"E c BYTE bb", line) {
+    if in_form(b"E c BYTE bb", line) {
         return byte_event(line);
     }
     read_clock(line)
@@ -134,10 +134,10 @@ fn read_event(line: &[u8]) -> Line
 fn read_edge(line: &[u8]) -> Line
     ensures { λ r. ⌜ r ≡ edgeLine (now (line .entry)) ⌝ }
 {
-    if fits(b"T R", line) {
+    if in_form(b"T R", line) {
         return Line::Readable(Step::Trigger(Edge::Rising));
     }
-    if fits(b"T F", line) {
+    if in_form(b"T F", line) {
         return Line::Readable(Step::Trigger(Edge::Falling));
     }
     read_event(line)
@@ -147,13 +147,13 @@ fn read_edge(line: &[u8]) -> Line
 pub fn read_line(line: &[u8]) -> Line
     ensures { λ r. ⌜ r ≡ lineOf (now (line .entry)) ⌝ }
 {
-    if fits(b"W aa dd", line) {
+    if in_form(b"W aa dd", line) {
         return Line::Readable(Step::Write(byte_at(line, 2), byte_at(line, 5)));
     }
-    if fits(b"R aa", line) {
+    if in_form(b"R aa", line) {
         return Line::Readable(Step::Read(byte_at(line, 2)));
     }
-    if fits(b"X", line) {
+    if in_form(b"X", line) {
         return Line::Readable(Step::Reset);
     }
     read_edge(line)

@@ -5,6 +5,7 @@ ghost use lib.ListN.{length, take};
 ghost use Rattle.script.specs.Answer.{Put, decimalOf, levelOf, middleOf, busyOf, onlyIf, entryOf, actionOf, orOf, actionsOf, answerLine, header, answerRoom, roomy, textIf, noAnswer};
 use part::Act;
 use part::PartAnswer;
+use rules::UNREADABLE;
 use sequence::Action;
 
 // The bytes that have to be left where a line is put (`answerRoom`).
@@ -228,7 +229,7 @@ pub fn unreadable() -> PartAnswer
         action: Action::Nothing,
     };
     PartAnswer {
-        number: 8,
+        number: UNREADABLE,
         value: 0,
         actions: [a, a, a],
     }

@@ -11,17 +11,19 @@ use Rattle.sequence.specs.declared.wires.Action.the-variants.{Nothing, S
 unfoldable pub digitOf : ℕ → ℕ
 digitOf d = if ltb d 10 then 48 + d else 55 + d
 
--- actions without a byte: C, A, P, and NP
+-- actions without a byte: C, A, P
 abbrev pub oneLetter : ℕ → Text
 oneLetter x = record { bytes = x ∷ 0 ∷ 0 ∷ 0 ∷ []; len = 1 }
 
+-- and NP
 abbrev pub twoLetters : ℕ → ℕ → Text
 twoLetters x y = record { bytes = x ∷ y ∷ 0 ∷ 0 ∷ []; len = 2 }
 
--- actions with a byte, printed without spaces: S aa, R aa, D bb, and NR aa
+-- actions with a byte, printed without spaces: S aa, R aa, D bb
 abbrev pub oneAndByte : ℕ → ℕ → Text
 oneAndByte x b = record { bytes = x ∷ digitOf (b / 16) ∷ digitOf (b % 16) ∷ 0 ∷ []; len = 3 }
 
+-- and NR aa
 abbrev pub twoAndByte : ℕ → ℕ → ℕ → Text
 twoAndByte x y b = record { bytes = x ∷ y ∷ digitOf (b / 16) ∷ digitOf (b % 16) ∷ []; len = 4 }
 

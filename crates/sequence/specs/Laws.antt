@@ -1,2 +1,3 @@
 -- Laws of the definitions, for the proofs of functions. Nothing here needs to be believed: it is proved.
 pub mod Wires
+pub mod Meeting

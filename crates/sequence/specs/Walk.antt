@@ -12,8 +12,6 @@ use Rattle.sequence.specs.declared.wires.Ending.{Ending}
 use Rattle.sequence.specs.declared.wires.Ending.the-variants.{Fe, Error, Sd, Wait}
 use Rattle.sequence.specs.Wires.{fldAfter}
 
--- ---- the walk
-
 -- Idle: nothing is recorded, and the number of ended frames is 0
 abbrev pub idle : Walk
 idle = record { phase = Idle; ended = 0; sto = false; seq = false; fe = false; error = false }
@@ -26,41 +24,57 @@ waiting n = record { phase = Waiting; ended = n; sto = false; seq = false; fe = 
 abbrev pub toPhase : Walk → Phase → Walk
 toPhase w p = record { phase = p; ended = w .ended; sto = w .sto; seq = w .seq; fe = w .fe; error = w .error }
 
--- STO, STOSEQ or FE recorded
-abbrev pub stoRecorded : Walk → Walk
-stoRecorded w = record { phase = w .phase; ended = w .ended; sto = true; seq = w .seq; fe = w .fe; error = w .error }
-
-abbrev pub seqRecorded : Walk → Walk
-seqRecorded w = record { phase = w .phase; ended = w .ended; sto = w .sto; seq = true; fe = w .fe; error = w .error }
-
-abbrev pub feRecorded : Walk → Walk
-feRecorded w = record { phase = w .phase; ended = w .ended; sto = w .sto; seq = w .seq; fe = true; error = w .error }
-
--- Stopping, an error end noted
-abbrev pub errorNoted : Walk → Walk
-errorNoted w = record { phase = Stopping; ended = w .ended; sto = w .sto; seq = w .seq; fe = w .fe; error = true }
-
--- ---- the flags
-
 -- CHSTATUS 00h
 abbrev pub noFlags : Flags
 noFlags = record { sd = false; fld = false; we = false; re = false; dae = false; cle = false; sse = false; fe = false }
 
-abbrev pub sdSet : Flags → Bool → Flags
-sdSet f fld = record { sd = true; fld = fld; we = f .we; re = f .re; dae = f .dae; cle = f .cle; sse = f .sse; fe = f .fe }
+-- ---- CONTROL
 
-abbrev pub feSet : Flags → Flags
-feSet f = record { sd = f .sd; fld = f .fld; we = f .we; re = f .re; dae = f .dae; cle = f .cle; sse = f .sse; fe = true }
+-- STO recorded
+abbrev pub stoRecorded : Walk → Walk
+stoRecorded w = record { phase = w .phase; ended = w .ended; sto = true; seq = w .seq; fe = w .fe; error = w .error }
 
+-- STOSEQ recorded
+abbrev pub seqRecorded : Walk → Walk
+seqRecorded w = record { phase = w .phase; ended = w .ended; sto = w .sto; seq = true; fe = w .fe; error = w .error }
+
+-- ---- NACK
+
+-- WE set
 abbrev pub weSet : Flags → Flags
 weSet f = record { sd = f .sd; fld = f .fld; we = true; re = f .re; dae = f .dae; cle = f .cle; sse = f .sse; fe = f .fe }
 
+-- RE set
 abbrev pub reSet : Flags → Flags
 reSet f = record { sd = f .sd; fld = f .fld; we = f .we; re = true; dae = f .dae; cle = f .cle; sse = f .sse; fe = f .fe }
 
--- NACK: WE for a write, RE for a read
+-- WE for a write, RE for a read
 unfoldable pub nackFlags : Flags → Bool → Flags
 nackFlags f read = if read then reSet f else weSet f
+
+-- unmasked: P, an error end
+abbrev pub errorNoted : Walk → Walk
+errorNoted w = record { phase = Stopping; ended = w .ended; sto = w .sto; seq = w .seq; fe = w .fe; error = true }
+
+-- ---- TICK, or a trigger edge
+
+-- FE set
+abbrev pub feSet : Flags → Flags
+feSet f = record { sd = f .sd; fld = f .fld; we = f .we; re = f .re; dae = f .dae; cle = f .cle; sse = f .sse; fe = true }
+
+-- FE recorded
+abbrev pub feRecorded : Walk → Walk
+feRecorded w = record { phase = w .phase; ended = w .ended; sto = w .sto; seq = w .seq; fe = true; error = w .error }
+
+-- late with FEMSK 1: FE set, no more
+unfoldable pub lateFlags : Flags → Bool → Flags
+lateFlags f femsk = if femsk then feSet f else f
+
+-- otherwise FE is recorded
+unfoldable pub lateWalk : Walk → Bool → Walk
+lateWalk w femsk = if femsk then w else feRecorded w
+
+-- ---- SDA, SCL, ILL
 
 -- SDA sets DAE, SCL CLE, ILL SSE
 unfoldable pub faultFlags : Flags → Fault → Flags
@@ -68,20 +82,20 @@ faultFlags f Dae = record { sd = f .sd; fld = f .fld; we = f .we; re = f .re; da
 faultFlags f Cle = record { sd = f .sd; fld = f .fld; we = f .we; re = f .re; dae = f .dae; cle = true; sse = f .sse; fe = f .fe }
 faultFlags f Sse = record { sd = f .sd; fld = f .fld; we = f .we; re = f .re; dae = f .dae; cle = f .cle; sse = true; fe = f .fe }
 
--- late with FEMSK 1: FE set, no more; otherwise FE is recorded
-unfoldable pub lateFlags : Flags → Bool → Flags
-lateFlags f femsk = if femsk then feSet f else f
+-- ---- a frame's end
 
-unfoldable pub lateWalk : Walk → Bool → Walk
-lateWalk w femsk = if femsk then w else feRecorded w
+-- SD set, with FLD as given
+abbrev pub sdSet : Flags → Bool → Flags
+sdSet f fld = record { sd = true; fld = fld; we = f .we; re = f .re; dae = f .dae; cle = f .cle; sse = f .sse; fe = f .fe }
 
--- ---- the frame's end: FE, Idle; Idle; SD, with FLD under its rule, Idle; SD, Waiting
+-- FE, Idle; Idle; SD, with FLD under its rule, Idle; SD, Waiting
 unfoldable pub endFlags : Flags → Bool → ℕ → Ending → Flags
 endFlags f te framecnt Fe = feSet f
 endFlags f te framecnt Error = f
 endFlags f te framecnt Sd = sdSet f (fldAfter te framecnt (f .fld))
 endFlags f te framecnt (Wait n) = sdSet f (f .fld)
 
+-- the same: Idle, or Waiting
 unfoldable pub endWalk : Ending → Walk
 endWalk Fe = idle
 endWalk Error = idle

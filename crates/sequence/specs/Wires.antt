@@ -1,5 +1,5 @@
--- Document 01, 'A sequence on the wires': what an event or a trigger edge comes to, where a walk goes on, how a frame begins and ends, and what a write to CONTROL asks for.
-use Prim.Native.Nat.{ℕ, _+_, _<_}
+-- Document 01, 'A sequence on the wires': what a write to CONTROL asks for, how a frame begins, what an event comes to, where a walk goes on, how a frame ends, and a trigger edge.
+use Prim.Native.Nat.{ℕ, _+_}
 use mathlib.Core.Bool.{Bool, true, false, not}
 use mathlib.Core.List.{List}
 use lib.Dec.{eqb, ltb}
@@ -9,13 +9,13 @@ use Rattle.rules.specs.declared.state.Phase.{Phase}
 use Rattle.rules.specs.declared.state.Phase.the-variants.{Idle, Address, Sending, Receiving, Stopping, Waiting}
 use Rattle.rules.specs.declared.registers.Command.{Command}
 use Rattle.sequence.specs.declared.wires.Event.{Event}
-use Rattle.sequence.specs.declared.wires.Event.the-variants.{Ack, Nack, Byte, Tick, Stop, Sda, Scl, Ill}
+use Rattle.sequence.specs.declared.wires.Event.the-variants.{Ack, Byte, Nack, Tick, Stop, Sda, Scl, Ill}
 use Rattle.sequence.specs.declared.wires.Edge.{Edge}
 use Rattle.sequence.specs.declared.wires.Edge.the-variants.{Rising, Falling}
 use Rattle.sequence.specs.declared.wires.Action.{Action}
 use Rattle.sequence.specs.declared.wires.Action.the-variants.{R, Np, Nr, P}
 use Rattle.sequence.specs.declared.wires.Turn.{Turn}
-use Rattle.sequence.specs.declared.wires.Turn.the-variants.{Unawaited, AckAddress, AckSending, NackAddress, NackSending, Receive, Begin as BeginTurn, Late as LateTurn, End, Fault as Faulty}
+use Rattle.sequence.specs.declared.wires.Turn.the-variants.{Unawaited, AckAddress, AckSending, Receive, NackAddress, NackSending, Begin as BeginTurn, Late as LateTurn, End, Fault as Faulty}
 use Rattle.sequence.specs.declared.wires.Beat.{Beat}
 use Rattle.sequence.specs.declared.wires.Beat.the-variants.{Quiet, Begin, Late}
 use Rattle.sequence.specs.declared.wires.Fault.the-variants.{Dae, Cle, Sse}
@@ -36,15 +36,15 @@ use Rattle.rules.specs.Tables.{firstSent}
 
 -- ---- CONTROL: what is left of a write after TP, TE and the pointer resets
 
+-- both written, only STO counts; otherwise they are recorded and read 1 until Idle
+unfoldable pub stopAsked : Bool → Bool → Ask
+stopAsked sto seq = if sto then Sto else if seq then Seq else Nothing
+
 -- STA written 1 when Idle begins a frame, or Waiting if TE is 1
 unfoldable pub startAsked : Bool → Bool → Ask
 startAsked sta te = if sta then (if te then WaitAsk else BeginAsk) else Nothing
 
--- both written, only STO counts; otherwise they are recorded
-unfoldable pub stopAsked : Bool → Bool → Ask
-stopAsked sto seq = if sto then Sto else if seq then Seq else Nothing
-
--- STO or STOSEQ in Waiting: Idle at once
+-- STO or STOSEQ in Waiting: SD, FLD under the same rule, Idle at once
 unfoldable pub leaveAsked : Bool → Bool → Ask
 leaveAsked sto seq = if sto then Leave else if seq then Leave else Nothing
 
@@ -61,56 +61,20 @@ askedIn Waiting k te = leaveAsked (k .sto) (k .stoseq)
 unfoldable pub askOf : Phase → Command → Bool → Bool → Ask
 askOf p k te over = if over then Overrun else askedIn p k te
 
--- ---- a frame begins: count 0; lengths that sum above 4,352; otherwise
+-- ---- a frame begins
+
+-- count 0; lengths of the first count transactions summing above 4,352; otherwise
 unfoldable pub beginningOf : ℕ → Bool → Beginning
 beginningOf count fit = if eqb count 0 then Empty else if fit then Fit else Unfit
 
--- ---- the walk
-
--- FE or STO recorded
-unfoldable pub haltedOf : Bool → Bool → Bool
-haltedOf fe sto = if fe then true else sto
-
--- behind transaction n the walk goes on to the next that is not skipped, or the count; with FE or STO recorded it does not
-unfoldable pub reachOf : Bool → ℕ → List ℕ → List ℕ → ℕ
-reachOf halt n sla lens = if halt then n + 1 else firstSent sla lens (n + 1) (getD lens 0 0)
-
--- the next move: a stop where FE or STO is recorded or after the last, else the transaction to send
-unfoldable pub moveOf : Bool → ℕ → ℕ → Move
-moveOf halt to count = if halt then Halt else if ltb to count then Send to else Halt
-
--- a move to a transaction that exists
-abbrev pub Exists : Move → Type 0
-Exists Halt = Unit {0}
-Exists (Send n) = n < 64
-
--- after n bytes (0: the address): a byte is left and is sent, or cut short where FE or STO is recorded; or the transaction is done
-unfoldable pub nextOf : Bool → ℕ → ℕ → Next
-nextOf halt n len = if ltb n len then (if halt then Cut else More) else Over
-
--- one more byte is one of the transaction's
-abbrev pub Ready : Next → ℕ → ℕ → Type 0
-Ready Cut n len = Unit {0}
-Ready More n len = n < len
-Ready Over n len = Unit {0}
-
--- P, or NP after BYTE
-abbrev pub stopBy : Tail → Action
-stopBy Plain = P
-stopBy Nacked = Np
-
--- later ones a repeated START; NR after BYTE
+-- later ones a repeated START; after BYTE, NR
 abbrev pub againBy : Tail → ℕ → Action
 againBy Plain sla = R sla
 againBy Nacked sla = Nr sla
 
--- WE for a write, RE for a read: whether INTMSK masks it
-unfoldable pub maskedOf : ℕ → Bool → Bool
-maskedOf intmsk read = if read then bitOf intmsk 0x10 else bitOf intmsk 0x20
-
 -- ---- events: what each comes to in each phase; elsewhere it is not awaited
 
--- ACK in Address and in Sending
+-- ACK in Address, ACK in Sending
 abbrev pub ackTurn : Phase → Turn
 ackTurn Idle = Unawaited
 ackTurn (Address n) = AckAddress n
@@ -118,15 +82,6 @@ ackTurn (Sending n) = AckSending n
 ackTurn (Receiving n) = Unawaited
 ackTurn Stopping = Unawaited
 ackTurn Waiting = Unawaited
-
--- NACK in Address and in Sending
-abbrev pub nackTurn : Phase → Turn
-nackTurn Idle = Unawaited
-nackTurn (Address n) = NackAddress n
-nackTurn (Sending n) = NackSending n
-nackTurn (Receiving n) = Unawaited
-nackTurn Stopping = Unawaited
-nackTurn Waiting = Unawaited
 
 -- BYTE b in Receiving
 abbrev pub byteTurn : Phase → ℕ → Turn
@@ -137,7 +92,49 @@ byteTurn (Receiving n) b = Receive n b
 byteTurn Stopping b = Unawaited
 byteTurn Waiting b = Unawaited
 
--- begins a frame if Waiting, is late if a frame runs, and does nothing if Idle
+-- NACK: in Address, in Sending
+abbrev pub nackTurn : Phase → Turn
+nackTurn Idle = Unawaited
+nackTurn (Address n) = NackAddress n
+nackTurn (Sending n) = NackSending n
+nackTurn (Receiving n) = Unawaited
+nackTurn Stopping = Unawaited
+nackTurn Waiting = Unawaited
+
+-- WE for a write, RE for a read: masked by INTMSK or not
+unfoldable pub maskedOf : ℕ → Bool → Bool
+maskedOf intmsk read = if read then bitOf intmsk 0x10 else bitOf intmsk 0x20
+
+-- ---- after each
+
+-- with FE or STO recorded
+unfoldable pub haltedOf : Bool → Bool → Bool
+haltedOf fe sto = if fe then true else sto
+
+-- after n bytes (0: the address of a write): next byte, or done; with FE or STO recorded, a transaction is cut short
+unfoldable pub nextOf : Bool → ℕ → ℕ → Next
+nextOf halt n len = if ltb n len then (if halt then Cut else More) else Over
+
+-- behind transaction n the walk goes on to the next that is not skipped, or the count; with FE or STO recorded it does not
+unfoldable pub reachOf : Bool → ℕ → List ℕ → List ℕ → ℕ
+reachOf halt n sla lens = if halt then n + 1 else firstSent sla lens (n + 1) (getD lens 0 0)
+
+-- P with FE or STO recorded, and after the last; else the next transaction
+unfoldable pub moveOf : Bool → ℕ → ℕ → Move
+moveOf halt to count = if halt then Halt else if ltb to count then Send to else Halt
+
+-- P, or NP after BYTE
+abbrev pub stopBy : Tail → Action
+stopBy Plain = P
+stopBy Nacked = Np
+
+-- ---- the other events
+
+-- TICK (TE 0, FRAMECNT not 1)
+unfoldable pub tickingOf : Bool → ℕ → Bool
+tickingOf te framecnt = if te then false else not (eqb framecnt 1)
+
+-- in Waiting begins a frame; in a frame it is late. The same of a trigger edge, which does nothing if Idle
 abbrev pub beatOf : Phase → Beat
 beatOf Idle = Quiet
 beatOf (Address n) = Late
@@ -152,10 +149,7 @@ beatTurn Quiet = Unawaited
 beatTurn Begin = BeginTurn
 beatTurn Late = LateTurn
 
--- TICK (TE 0, FRAMECNT not 1)
-unfoldable pub tickingOf : Bool → ℕ → Bool
-tickingOf te framecnt = if te then false else not (eqb framecnt 1)
-
+-- with TE 1 or FRAMECNT 1 a TICK is not awaited
 unfoldable pub tickTurn : Phase → Bool → ℕ → Turn
 tickTurn p te framecnt = if tickingOf te framecnt then beatTurn (beatOf p) else Unawaited
 
@@ -177,7 +171,7 @@ sdaTurn (Receiving n) = Unawaited
 sdaTurn Stopping = Unawaited
 sdaTurn Waiting = Unawaited
 
--- SCL (any active phase) sets CLE
+-- SCL (any active phase) CLE
 abbrev pub sclTurn : Phase → Turn
 sclTurn Idle = Unawaited
 sclTurn (Address n) = Faulty Cle
@@ -186,11 +180,11 @@ sclTurn (Receiving n) = Faulty Cle
 sclTurn Stopping = Faulty Cle
 sclTurn Waiting = Faulty Cle
 
--- ILL (any phase) sets SSE
+-- ILL (any phase) SSE. What each event comes to
 unfoldable pub turnOf : Phase → Bool → ℕ → Event → Turn
 turnOf p te framecnt Ack = ackTurn p
-turnOf p te framecnt Nack = nackTurn p
 turnOf p te framecnt (Byte b) = byteTurn p b
+turnOf p te framecnt Nack = nackTurn p
 turnOf p te framecnt Tick = tickTurn p te framecnt
 turnOf p te framecnt Stop = stopTurn p
 turnOf p te framecnt Sda = sdaTurn p
@@ -199,14 +193,7 @@ turnOf p te framecnt Ill = Faulty Sse
 
 -- ---- a frame's end
 
--- TE 1 or FRAMECNT 0: SD, Waiting; frames left, this one counted: SD, Waiting; last: SD, Idle
-unfoldable pub restOf : Bool → ℕ → ℕ → Ending
-restOf te framecnt ended =
-    if te then Wait 0 else
-    if eqb framecnt 0 then Wait 0 else
-    if ltb (ended + 1) framecnt then Wait (ended + 1) else Sd
-
--- the first that applies: FE recorded; error end; STO; STOSEQ; the rest
+-- Frame end, first that applies: FE recorded; error end; STO; STOSEQ; the rest
 unfoldable pub endingOf : Bool → Bool → Bool → Bool → Ending → Ending
 endingOf fe error sto seq rest =
     if fe then Fe else
@@ -214,14 +201,24 @@ endingOf fe error sto seq rest =
     if sto then Sd else
     if seq then Sd else rest
 
+-- TE 1 or FRAMECNT 0: SD, Waiting. Frames left (fewer than FRAMECNT ended since STA, this one counted): SD, Waiting. Last: SD, Idle
+unfoldable pub restOf : Bool → ℕ → ℕ → Ending
+restOf te framecnt ended =
+    if te then Wait 0 else
+    if eqb framecnt 0 then Wait 0 else
+    if ltb (ended + 1) framecnt then Wait (ended + 1) else Sd
+
 -- FLD joins SD wherever the channel goes Idle, unless TE is 0 and FRAMECNT is 1
 unfoldable pub fldAfter : Bool → ℕ → Bool → Bool
 fldAfter te framecnt old = if te then true else if eqb framecnt 1 then old else true
 
--- ---- a trigger edge: each channel with TE 1 and matching TP (0 rising)
+-- ---- a trigger edge
+
+-- matching TP (0 rising)
 abbrev pub matchesOf : Bool → Edge → Bool
 matchesOf tp Rising = not tp
 matchesOf tp Falling = tp
 
+-- each channel with TE 1 and matching TP begins a frame if Waiting, is late if a frame runs, and does nothing if Idle
 unfoldable pub edgeBeat : Phase → Bool → Bool → Edge → Beat
 edgeBeat p te tp edge = if te then (if matchesOf tp edge then beatOf p else Quiet) else Quiet

@@ -1,7 +1,7 @@
 // The changes of a walk and of the flags of CHSTATUS that the rules make.
 ghost use mathlib.Core.Path.{_≡_};
-ghost use Rattle.sequence.specs.Walk.{idle, waiting, toPhase, stoRecorded, seqRecorded, feRecorded, errorNoted};
-ghost use Rattle.sequence.specs.Walk.{noFlags, sdSet, feSet, weSet, reSet, nackFlags, faultFlags, lateFlags, lateWalk, endFlags, endWalk};
+ghost use Rattle.sequence.specs.Walk.{idle, waiting, toPhase, noFlags, stoRecorded, seqRecorded, weSet, reSet, nackFlags, errorNoted};
+ghost use Rattle.sequence.specs.Walk.{feSet, feRecorded, lateFlags, lateWalk, faultFlags, sdSet, endFlags, endWalk};
 use crate::wires::Ending;
 use crate::wires::Fault;
 use crate::wires::fld_after;
@@ -48,6 +48,23 @@ pub fn to_phase(w: Walk, phase: Phase) -> Walk
     }
 }
 
+pub fn no_flags() -> Flags
+    ensures { λ r. ⌜ r ≡ noFlags ⌝ }
+{
+    Flags {
+        sd: false,
+        fld: false,
+        we: false,
+        re: false,
+        dae: false,
+        cle: false,
+        sse: false,
+        fe: false,
+    }
+}
+
+// ---- CONTROL
+
 pub fn record_sto(w: Walk) -> Walk
     ensures { λ r. ⌜ r ≡ stoRecorded w ⌝ }
 {
@@ -64,58 +81,7 @@ pub fn record_seq(w: Walk) -> Walk
     v
 }
 
-fn record_fe(w: Walk) -> Walk
-    ensures { λ r. ⌜ r ≡ feRecorded w ⌝ }
-{
-    let mut v = w;
-    v.fe = true;
-    v
-}
-
-pub fn note_error(w: Walk) -> Walk
-    ensures { λ r. ⌜ r ≡ errorNoted w ⌝ }
-{
-    Walk {
-        phase: Phase::Stopping,
-        ended: w.ended,
-        sto: w.sto,
-        seq: w.seq,
-        fe: w.fe,
-        error: true,
-    }
-}
-
-pub fn no_flags() -> Flags
-    ensures { λ r. ⌜ r ≡ noFlags ⌝ }
-{
-    Flags {
-        sd: false,
-        fld: false,
-        we: false,
-        re: false,
-        dae: false,
-        cle: false,
-        sse: false,
-        fe: false,
-    }
-}
-
-fn set_sd(f: Flags, fld: bool) -> Flags
-    ensures { λ r. ⌜ r ≡ sdSet f fld ⌝ }
-{
-    let mut g = f;
-    g.sd = true;
-    g.fld = fld;
-    g
-}
-
-fn set_fe(f: Flags) -> Flags
-    ensures { λ r. ⌜ r ≡ feSet f ⌝ }
-{
-    let mut g = f;
-    g.fe = true;
-    g
-}
+// ---- NACK
 
 fn set_we(f: Flags) -> Flags
     ensures { λ r. ⌜ r ≡ weSet f ⌝ }
@@ -140,6 +106,51 @@ pub fn nack_flags(f: Flags, read: bool) -> Flags
     if read { set_re(f) } else { set_we(f) }
 }
 
+pub fn note_error(w: Walk) -> Walk
+    ensures { λ r. ⌜ r ≡ errorNoted w ⌝ }
+{
+    Walk {
+        phase: Phase::Stopping,
+        ended: w.ended,
+        sto: w.sto,
+        seq: w.seq,
+        fe: w.fe,
+        error: true,
+    }
+}
+
+// ---- TICK, or a trigger edge
+
+fn set_fe(f: Flags) -> Flags
+    ensures { λ r. ⌜ r ≡ feSet f ⌝ }
+{
+    let mut g = f;
+    g.fe = true;
+    g
+}
+
+fn record_fe(w: Walk) -> Walk
+    ensures { λ r. ⌜ r ≡ feRecorded w ⌝ }
+{
+    let mut v = w;
+    v.fe = true;
+    v
+}
+
+pub fn late_flags(f: Flags, femsk: bool) -> Flags
+    ensures { λ r. ⌜ r ≡ lateFlags f femsk ⌝ }
+{
+    if femsk { set_fe(f) } else { f }
+}
+
+pub fn late_walk(w: Walk, femsk: bool) -> Walk
+    ensures { λ r. ⌜ r ≡ lateWalk w femsk ⌝ }
+{
+    if femsk { w } else { record_fe(w) }
+}
+
+// ---- SDA, SCL, ILL
+
 // SDA sets DAE, SCL CLE, ILL SSE.
 pub fn fault_flags(f: Flags, fault: Fault) -> Flags
     ensures { λ r. ⌜ r ≡ faultFlags f fault ⌝ }
@@ -161,16 +172,15 @@ pub fn fault_flags(f: Flags, fault: Fault) -> Flags
     }
 }
 
-pub fn late_flags(f: Flags, femsk: bool) -> Flags
-    ensures { λ r. ⌜ r ≡ lateFlags f femsk ⌝ }
-{
-    if femsk { set_fe(f) } else { f }
-}
+// ---- a frame's end
 
-pub fn late_walk(w: Walk, femsk: bool) -> Walk
-    ensures { λ r. ⌜ r ≡ lateWalk w femsk ⌝ }
+fn set_sd(f: Flags, fld: bool) -> Flags
+    ensures { λ r. ⌜ r ≡ sdSet f fld ⌝ }
 {
-    if femsk { w } else { record_fe(w) }
+    let mut g = f;
+    g.sd = true;
+    g.fld = fld;
+    g
 }
 
 pub fn end_flags(f: Flags, te: bool, framecnt: u8, e: Ending) -> Flags

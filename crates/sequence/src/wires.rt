@@ -1,32 +1,32 @@
-// Document 01, 'A sequence on the wires': what an event or a trigger edge comes to, where a walk goes on, how a frame begins and ends, and what a write to CONTROL asks for.
+// Document 01, 'A sequence on the wires': what a write to CONTROL asks for, how a frame begins, what an event comes to, where a walk goes on, how a frame ends, and a trigger edge.
 ghost use mathlib.Core.Path.{_≡_};
 ghost use Prim.Native.Nat.{_+_, _<_, _≤_};
 ghost use lib.ListN.{getD};
-ghost use Rattle.sequence.specs.Wires.{ackTurn, nackTurn, byteTurn, tickingOf, beatOf, beatTurn, tickTurn, stopTurn, sdaTurn, sclTurn, turnOf, matchesOf, edgeBeat};
-ghost use Rattle.sequence.specs.Wires.{haltedOf, reachOf, moveOf, Exists, nextOf, Ready, stopBy, againBy, maskedOf};
-ghost use Rattle.sequence.specs.Wires.{beginningOf, restOf, endingOf, fldAfter};
-ghost use Rattle.sequence.specs.Wires.{stopAsked, leaveAsked, startAsked, askedIn, askOf};
+ghost use Rattle.sequence.specs.Wires.{stopAsked, startAsked, leaveAsked, askedIn, askOf, beginningOf, againBy};
+ghost use Rattle.sequence.specs.Wires.{ackTurn, byteTurn, nackTurn, maskedOf, haltedOf, nextOf, reachOf, moveOf, stopBy};
+ghost use Rattle.sequence.specs.Wires.{tickingOf, beatOf, beatTurn, tickTurn, stopTurn, sdaTurn, sclTurn, turnOf, endingOf, restOf, fldAfter, matchesOf, edgeBeat};
+ghost use Rattle.sequence.specs.Facts.{Ready, Exists};
 use rules::Command;
 use rules::Phase;
 use rules::bit;
 use rules::first_sent;
 
-// What the wires did, or the bench's clock.
-pub enum Event {
-    Ack,
-    Nack,
-    Byte(u8),
-    Tick,
-    Stop,
-    Sda,
-    Scl,
-    Ill,
+// What is left of a write to CONTROL after TP, TE and the pointer resets.
+pub enum Ask {
+    Nothing,
+    Overrun,
+    Begin,
+    Wait,
+    Sto,
+    Seq,
+    Leave,
 }
 
-// An edge of the trigger.
-pub enum Edge {
-    Rising,
-    Falling,
+// How a frame begins.
+pub enum Beginning {
+    Empty,
+    Unfit,
+    Fit,
 }
 
 // What a channel does on the wires, in document 01's letters.
@@ -42,18 +42,49 @@ pub enum Action {
     P,
 }
 
+// What the wires did, or the bench's clock.
+pub enum Event {
+    Ack,
+    Byte(u8),
+    Nack,
+    Tick,
+    Stop,
+    Sda,
+    Scl,
+    Ill,
+}
+
 // What an event comes to in the phase that it meets.
 pub enum Turn {
     Unawaited,
     AckAddress(usize),
     AckSending(usize),
+    Receive(usize, u8),
     NackAddress(usize),
     NackSending(usize),
-    Receive(usize, u8),
     Begin,
     Late,
     End,
     Fault(Fault),
+}
+
+// After a byte, or the address of a write: cut short, one more byte, or over.
+pub enum Next {
+    Cut,
+    More,
+    Over,
+}
+
+// The next move of a walk: a stop, or the transaction to send.
+pub enum Move {
+    Halt,
+    Send(usize),
+}
+
+// Whether the last byte has yet to be refused by the channel itself: P and R, or NP and NR.
+pub enum Tail {
+    Plain,
+    Nacked,
 }
 
 // What a TICK or a matching trigger edge does: nothing, begin a frame, or be late.
@@ -70,32 +101,6 @@ pub enum Fault {
     Sse,
 }
 
-// The next move of a walk: a stop, or the transaction to send.
-pub enum Move {
-    Halt,
-    Send(usize),
-}
-
-// After a byte, or the address of a write: cut short, one more byte, or over.
-pub enum Next {
-    Cut,
-    More,
-    Over,
-}
-
-// Whether the last byte has yet to be refused by the channel itself: P and R, or NP and NR.
-pub enum Tail {
-    Plain,
-    Nacked,
-}
-
-// How a frame begins.
-pub enum Beginning {
-    Empty,
-    Unfit,
-    Fit,
-}
-
 // How a frame ends: FE recorded, an error end, SD and Idle, or SD and Waiting with the number of ended frames.
 pub enum Ending {
     Fe,
@@ -104,15 +109,87 @@ pub enum Ending {
     Wait(u8),
 }
 
-// What is left of a write to CONTROL after TP, TE and the pointer resets.
-pub enum Ask {
-    Nothing,
-    Overrun,
-    Begin,
-    Wait,
-    Sto,
-    Seq,
-    Leave,
+// An edge of the trigger.
+pub enum Edge {
+    Rising,
+    Falling,
+}
+
+// ---- CONTROL
+
+fn stop_asked(sto: bool, seq: bool) -> Ask
+    ensures { λ r. ⌜ r ≡ stopAsked sto seq ⌝ }
+{
+    if sto {
+        return Ask::Sto;
+    }
+    if seq { Ask::Seq } else { Ask::Nothing }
+}
+
+fn start_asked(sta: bool, te: bool) -> Ask
+    ensures { λ r. ⌜ r ≡ startAsked sta te ⌝ }
+{
+    if sta {
+        if te { Ask::Wait } else { Ask::Begin }
+    } else {
+        Ask::Nothing
+    }
+}
+
+fn leave_asked(sto: bool, seq: bool) -> Ask
+    ensures { λ r. ⌜ r ≡ leaveAsked sto seq ⌝ }
+{
+    if sto {
+        return Ask::Leave;
+    }
+    if seq { Ask::Leave } else { Ask::Nothing }
+}
+
+fn asked_in(p: Phase, k: Command, te: bool) -> Ask
+    ensures { λ r. ⌜ r ≡ askedIn p k te ⌝ }
+{
+    match p {
+        Phase::Idle => start_asked(k.sta, te),
+        Phase::Address(_) => stop_asked(k.sto, k.stoseq),
+        Phase::Sending(_) => stop_asked(k.sto, k.stoseq),
+        Phase::Receiving(_) => stop_asked(k.sto, k.stoseq),
+        Phase::Stopping => stop_asked(k.sto, k.stoseq),
+        Phase::Waiting => leave_asked(k.sto, k.stoseq),
+    }
+}
+
+pub fn ask_of(p: Phase, k: Command, te: bool, over: bool) -> Ask
+    ensures { λ r. ⌜ r ≡ askOf p k te over ⌝ }
+{
+    if over {
+        Ask::Overrun
+    } else {
+        asked_in(p, k, te)
+    }
+}
+
+// ---- a frame begins
+
+pub fn begins(count: usize, fit: bool) -> Beginning
+    ensures { λ r. ⌜ r ≡ beginningOf count fit ⌝ }
+{
+    if count == 0 {
+        return Beginning::Empty;
+    }
+    if fit {
+        Beginning::Fit
+    } else {
+        Beginning::Unfit
+    }
+}
+
+pub fn again_by(t: Tail, sla: u8) -> Action
+    ensures { λ r. ⌜ r ≡ againBy t sla ⌝ }
+{
+    match t {
+        Tail::Plain => Action::R(sla),
+        Tail::Nacked => Action::Nr(sla),
+    }
 }
 
 // ---- events
@@ -125,6 +202,19 @@ fn ack_turn(p: Phase) -> Turn
         Phase::Address(n) => Turn::AckAddress(n as usize),
         Phase::Sending(n) => Turn::AckSending(n as usize),
         Phase::Receiving(_) => Turn::Unawaited,
+        Phase::Stopping => Turn::Unawaited,
+        Phase::Waiting => Turn::Unawaited,
+    }
+}
+
+fn byte_turn(p: Phase, b: u8) -> Turn
+    ensures { λ r. ⌜ r ≡ byteTurn p b ⌝ }
+{
+    match p {
+        Phase::Idle => Turn::Unawaited,
+        Phase::Address(_) => Turn::Unawaited,
+        Phase::Sending(_) => Turn::Unawaited,
+        Phase::Receiving(n) => Turn::Receive(n as usize, b),
         Phase::Stopping => Turn::Unawaited,
         Phase::Waiting => Turn::Unawaited,
     }
@@ -143,17 +233,78 @@ fn nack_turn(p: Phase) -> Turn
     }
 }
 
-fn byte_turn(p: Phase, b: u8) -> Turn
-    ensures { λ r. ⌜ r ≡ byteTurn p b ⌝ }
+// Whether WE, or RE of a read, is masked.
+pub fn masked(intmsk: u8, read: bool) -> bool
+    ensures { λ r. ⌜ r ≡ maskedOf intmsk read ⌝ }
 {
-    match p {
-        Phase::Idle => Turn::Unawaited,
-        Phase::Address(_) => Turn::Unawaited,
-        Phase::Sending(_) => Turn::Unawaited,
-        Phase::Receiving(n) => Turn::Receive(n as usize, b),
-        Phase::Stopping => Turn::Unawaited,
-        Phase::Waiting => Turn::Unawaited,
+    if read {
+        bit(intmsk, 0x10)
+    } else {
+        bit(intmsk, 0x20)
     }
+}
+
+// ---- after each
+
+pub fn halted(fe: bool, sto: bool) -> bool
+    ensures { λ r. ⌜ r ≡ haltedOf fe sto ⌝ }
+{
+    if fe { true } else { sto }
+}
+
+// What follows n bytes of a transaction.
+pub fn next_byte(halt: bool, n: usize, len: usize) -> Next
+    ensures { λ r. ⌜ (r ≡ nextOf halt n len) × Ready r n len ⌝ }
+{
+    if n < len {
+        if halt { Next::Cut } else { Next::More }
+    } else {
+        Next::Over
+    }
+}
+
+// How far the walk goes on behind transaction n.
+pub fn reach<'a>(halt: bool, n: usize, sla: &'a [u8; 64], lens: &'a [u8; 65]) -> usize
+    requires { ⌜ (n < getD (now lens) 0 0) × (getD (now lens) 0 0 ≤ 64) ⌝ }
+    ensures { λ r. ⌜ (r ≡ reachOf halt n (now (sla .entry)) (now (lens .entry))) × (n + 1 ≤ r) × (r ≤ 64) ⌝ }
+{
+    if halt {
+        return n + 1;
+    }
+    let count = lens[0];
+    first_sent(sla, lens, n + 1, count as usize)
+}
+
+// Either a stop or the transaction to send.
+pub fn next_move(halt: bool, to: usize, count: usize) -> Move
+    requires { ⌜ count ≤ 64 ⌝ }
+    ensures { λ r. ⌜ (r ≡ moveOf halt to count) × Exists r ⌝ }
+{
+    if halt {
+        return Move::Halt;
+    }
+    if to < count {
+        Move::Send(to)
+    } else {
+        Move::Halt
+    }
+}
+
+pub fn stop_by(t: Tail) -> Action
+    ensures { λ r. ⌜ r ≡ stopBy t ⌝ }
+{
+    match t {
+        Tail::Plain => Action::P,
+        Tail::Nacked => Action::Np,
+    }
+}
+
+// ---- the other events
+
+fn ticking(te: bool, framecnt: u8) -> bool
+    ensures { λ r. ⌜ r ≡ tickingOf te framecnt ⌝ }
+{
+    if te { false } else { framecnt != 1 }
 }
 
 fn beat_of(p: Phase) -> Beat
@@ -176,6 +327,16 @@ fn beat_turn(b: Beat) -> Turn
         Beat::Quiet => Turn::Unawaited,
         Beat::Begin => Turn::Begin,
         Beat::Late => Turn::Late,
+    }
+}
+
+fn tick_turn(p: Phase, te: bool, framecnt: u8) -> Turn
+    ensures { λ r. ⌜ r ≡ tickTurn p te framecnt ⌝ }
+{
+    if ticking(te, framecnt) {
+        beat_turn(beat_of(p))
+    } else {
+        Turn::Unawaited
     }
 }
 
@@ -218,30 +379,14 @@ fn scl_turn(p: Phase) -> Turn
     }
 }
 
-fn ticking(te: bool, framecnt: u8) -> bool
-    ensures { λ r. ⌜ r ≡ tickingOf te framecnt ⌝ }
-{
-    if te { false } else { framecnt != 1 }
-}
-
-fn tick_turn(p: Phase, te: bool, framecnt: u8) -> Turn
-    ensures { λ r. ⌜ r ≡ tickTurn p te framecnt ⌝ }
-{
-    if ticking(te, framecnt) {
-        beat_turn(beat_of(p))
-    } else {
-        Turn::Unawaited
-    }
-}
-
 // What an event comes to.
 pub fn turn_of(p: Phase, te: bool, framecnt: u8, e: Event) -> Turn
     ensures { λ r. ⌜ r ≡ turnOf p te framecnt e ⌝ }
 {
     match e {
         Event::Ack => ack_turn(p),
-        Event::Nack => nack_turn(p),
         Event::Byte(b) => byte_turn(p, b),
+        Event::Nack => nack_turn(p),
         Event::Tick => tick_turn(p, te, framecnt),
         Event::Stop => stop_turn(p),
         Event::Sda => sda_turn(p),
@@ -249,6 +394,53 @@ pub fn turn_of(p: Phase, te: bool, framecnt: u8, e: Event) -> Turn
         Event::Ill => Turn::Fault(Fault::Sse),
     }
 }
+
+// ---- a frame's end
+
+// The first of the frame-end rules that applies.
+pub fn ends(fe: bool, error: bool, sto: bool, seq: bool, rest: Ending) -> Ending
+    ensures { λ r. ⌜ r ≡ endingOf fe error sto seq rest ⌝ }
+{
+    if fe {
+        return Ending::Fe;
+    }
+    if error {
+        return Ending::Error;
+    }
+    if sto {
+        return Ending::Sd;
+    }
+    if seq { Ending::Sd } else { rest }
+}
+
+pub fn rest(te: bool, framecnt: u8, ended: u8) -> Ending
+    ensures { λ r. ⌜ r ≡ restOf te framecnt ended ⌝ }
+{
+    if te {
+        return Ending::Wait(0);
+    }
+    if framecnt == 0 {
+        return Ending::Wait(0);
+    }
+    let last = framecnt - 1;
+    if ended < last {
+        Ending::Wait(ended + 1)
+    } else {
+        Ending::Sd
+    }
+}
+
+// FLD where a channel goes Idle with SD.
+pub fn fld_after(te: bool, framecnt: u8, old: bool) -> bool
+    ensures { λ r. ⌜ r ≡ fldAfter te framecnt old ⌝ }
+{
+    if te {
+        return true;
+    }
+    if framecnt == 1 { old } else { true }
+}
+
+// ---- a trigger edge
 
 fn matches(tp: bool, edge: Edge) -> bool
     ensures { λ r. ⌜ r ≡ matchesOf tp edge ⌝ }
@@ -271,191 +463,5 @@ pub fn edge_beat(p: Phase, te: bool, tp: bool, edge: Edge) -> Beat
         }
     } else {
         Beat::Quiet
-    }
-}
-
-// ---- the walk
-
-pub fn halted(fe: bool, sto: bool) -> bool
-    ensures { λ r. ⌜ r ≡ haltedOf fe sto ⌝ }
-{
-    if fe { true } else { sto }
-}
-
-// How far the walk goes on behind transaction n.
-pub fn reach<'a>(halt: bool, n: usize, sla: &'a [u8; 64], lens: &'a [u8; 65]) -> usize
-    requires { ⌜ (n < getD (now lens) 0 0) × (getD (now lens) 0 0 ≤ 64) ⌝ }
-    ensures { λ r. ⌜ (r ≡ reachOf halt n (now (sla .entry)) (now (lens .entry))) × (n + 1 ≤ r) × (r ≤ 64) ⌝ }
-{
-    if halt {
-        return n + 1;
-    }
-    let count = lens[0];
-    first_sent(sla, lens, n + 1, count as usize)
-}
-
-// Either a stop or the transaction to send.
-pub fn next_move(halt: bool, to: usize, count: usize) -> Move
-    requires { ⌜ count ≤ 64 ⌝ }
-    ensures { λ r. ⌜ (r ≡ moveOf halt to count) × Exists r ⌝ }
-{
-    if halt {
-        return Move::Halt;
-    }
-    if to < count {
-        Move::Send(to)
-    } else {
-        Move::Halt
-    }
-}
-
-// What follows n bytes of a transaction.
-pub fn next_byte(halt: bool, n: usize, len: usize) -> Next
-    ensures { λ r. ⌜ (r ≡ nextOf halt n len) × Ready r n len ⌝ }
-{
-    if n < len {
-        if halt { Next::Cut } else { Next::More }
-    } else {
-        Next::Over
-    }
-}
-
-pub fn stop_by(t: Tail) -> Action
-    ensures { λ r. ⌜ r ≡ stopBy t ⌝ }
-{
-    match t {
-        Tail::Plain => Action::P,
-        Tail::Nacked => Action::Np,
-    }
-}
-
-pub fn again_by(t: Tail, sla: u8) -> Action
-    ensures { λ r. ⌜ r ≡ againBy t sla ⌝ }
-{
-    match t {
-        Tail::Plain => Action::R(sla),
-        Tail::Nacked => Action::Nr(sla),
-    }
-}
-
-// Whether WE, or RE of a read, is masked.
-pub fn masked(intmsk: u8, read: bool) -> bool
-    ensures { λ r. ⌜ r ≡ maskedOf intmsk read ⌝ }
-{
-    if read {
-        bit(intmsk, 0x10)
-    } else {
-        bit(intmsk, 0x20)
-    }
-}
-
-// ---- a frame's begin and end
-
-pub fn begins(count: usize, fit: bool) -> Beginning
-    ensures { λ r. ⌜ r ≡ beginningOf count fit ⌝ }
-{
-    if count == 0 {
-        return Beginning::Empty;
-    }
-    if fit {
-        Beginning::Fit
-    } else {
-        Beginning::Unfit
-    }
-}
-
-pub fn rest(te: bool, framecnt: u8, ended: u8) -> Ending
-    ensures { λ r. ⌜ r ≡ restOf te framecnt ended ⌝ }
-{
-    if te {
-        return Ending::Wait(0);
-    }
-    if framecnt == 0 {
-        return Ending::Wait(0);
-    }
-    let last = framecnt - 1;
-    if ended < last {
-        Ending::Wait(ended + 1)
-    } else {
-        Ending::Sd
-    }
-}
-
-// The first of the frame-end rules that applies.
-pub fn ends(fe: bool, error: bool, sto: bool, seq: bool, rest: Ending) -> Ending
-    ensures { λ r. ⌜ r ≡ endingOf fe error sto seq rest ⌝ }
-{
-    if fe {
-        return Ending::Fe;
-    }
-    if error {
-        return Ending::Error;
-    }
-    if sto {
-        return Ending::Sd;
-    }
-    if seq { Ending::Sd } else { rest }
-}
-
-// FLD where a channel goes Idle with SD.
-pub fn fld_after(te: bool, framecnt: u8, old: bool) -> bool
-    ensures { λ r. ⌜ r ≡ fldAfter te framecnt old ⌝ }
-{
-    if te {
-        return true;
-    }
-    if framecnt == 1 { old } else { true }
-}
-
-// ---- what a write to CONTROL asks for
-
-fn start_asked(sta: bool, te: bool) -> Ask
-    ensures { λ r. ⌜ r ≡ startAsked sta te ⌝ }
-{
-    if sta {
-        if te { Ask::Wait } else { Ask::Begin }
-    } else {
-        Ask::Nothing
-    }
-}
-
-fn stop_asked(sto: bool, seq: bool) -> Ask
-    ensures { λ r. ⌜ r ≡ stopAsked sto seq ⌝ }
-{
-    if sto {
-        return Ask::Sto;
-    }
-    if seq { Ask::Seq } else { Ask::Nothing }
-}
-
-fn leave_asked(sto: bool, seq: bool) -> Ask
-    ensures { λ r. ⌜ r ≡ leaveAsked sto seq ⌝ }
-{
-    if sto {
-        return Ask::Leave;
-    }
-    if seq { Ask::Leave } else { Ask::Nothing }
-}
-
-fn asked_in(p: Phase, k: Command, te: bool) -> Ask
-    ensures { λ r. ⌜ r ≡ askedIn p k te ⌝ }
-{
-    match p {
-        Phase::Idle => start_asked(k.sta, te),
-        Phase::Address(_) => stop_asked(k.sto, k.stoseq),
-        Phase::Sending(_) => stop_asked(k.sto, k.stoseq),
-        Phase::Receiving(_) => stop_asked(k.sto, k.stoseq),
-        Phase::Stopping => stop_asked(k.sto, k.stoseq),
-        Phase::Waiting => leave_asked(k.sto, k.stoseq),
-    }
-}
-
-pub fn ask_of(p: Phase, k: Command, te: bool, over: bool) -> Ask
-    ensures { λ r. ⌜ r ≡ askOf p k te over ⌝ }
-{
-    if over {
-        Ask::Overrun
-    } else {
-        asked_in(p, k, te)
     }
 }

@@ -6,12 +6,13 @@ use mathlib.Core.List.{List}
 use lib.Dec.{ltb}
 use lib.ListN.{length}
 use Rattle.laws.specs.Pick.{if_then_else_}
+use Rattle.rules.specs.Interrupt.{beAfter}
 use Rattle.channel.specs.declared.state.Answer.{Answer}
 use Rattle.channel.specs.declared.state.Channel.{Channel}
-use Rattle.channel.specs.Step.{Accepted}
+use Rattle.channel.specs.Facts.{Accepted}
 use Rattle.part.specs.declared.state.PartAnswer.{PartAnswer}
 use Rattle.part.specs.State.{chan, window, putWindow, refusedPart}
-use Rattle.part.specs.Step.{beAfter, answerAt, oneAfter, accepts}
+use Rattle.part.specs.Step.{answerAt, oneAfter, accepts}
 use Rattle.works.specs.State.{State}
 
 -- ---- of one channel

@@ -11,8 +11,8 @@ use Rattle.laws.specs.Cases.{pick-holds}
 use Rattle.laws.specs.Pick.{if_then_else_}
 use Rattle.part.specs.declared.state.Part.{Part}
 use Rattle.part.specs.State.{freshPart, wiped}
-use Rattle.part.specs.Step.{Whole}
 use Rattle.part.specs.Laws.Kept.{fresh-part-in-range}
+use Rattle.part.specs.Facts.{Whole}
 use Rattle.script.specs.Answer.{Put, textIf, answerRoom, roomy, header}
 use Rattle.script.specs.Grammar.{lineRoom}
 use Rattle.runner.specs.declared.answering.Course.{Course}

@@ -1,21 +1,31 @@
 -- What a walk may rely on.
+use mathlib.Core.Bool.{Bool}
 use mathlib.Core.Path.{_≡_}
 use mathlib.Core.List.{List}
 use Prim.Native.Nat.{ℕ, _+_, _<_, _≤_}
 use native.Mathlib.Omega.{arith}
-use lib.ListN.{getD}
+use lib.ListN.{getD, set}
 use Rattle.sequence.specs.declared.wires.Move.{Move}
 use Rattle.sequence.specs.declared.wires.Move.the-variants.{Send}
 use Rattle.sequence.specs.declared.wires.Turn.{Turn}
 use Rattle.sequence.specs.declared.wires.Turn.the-variants.{AckAddress, AckSending, NackAddress, NackSending, Receive, Begin}
 use Rattle.sequence.specs.declared.wires.Next.{Next}
 use Rattle.sequence.specs.declared.wires.Next.the-variants.{More}
-use Rattle.rules.specs.Tables.{startOf, Running}
-use Rattle.sequence.specs.Wires.{Exists, Ready}
+use Rattle.rules.specs.Numbers.{bufferSize}
+use Rattle.rules.specs.Tables.{startOf, fitting, readsOf, marked}
+use Rattle.sequence.specs.declared.wires.Beginning.{Beginning}
+use Rattle.sequence.specs.declared.wires.Tail.{Tail}
+use Rattle.sequence.specs.Wires.{beginningOf, reachOf, moveOf, nextOf, maskedOf}
 use Rattle.rules.specs.Laws.Tables.{start-next}
+use Rattle.rules.specs.Facts.{Running}
+use Rattle.sequence.specs.Facts.{Exists, Ready}
 use Rattle.channel.specs.declared.state.Channel.{Channel}
-use Rattle.channel.specs.State.{countOf}
-use Rattle.channel.specs.Wires.{Counting, Meets}
+use Rattle.channel.specs.declared.state.Stepped.{Stepped}
+use Rattle.channel.specs.State.{countOf, withHead, withStatus, withCounts}
+use Rattle.channel.specs.declared.state.Head.{Head}
+use Rattle.channel.specs.Head.{haltOf, noted}
+use Rattle.channel.specs.Facts.{Counting, Meets}
+use Rattle.channel.specs.Wires.{slaveOf, lengthOf, bytesOf, resolved, passed, movedTo, onward, beganBy, begun, countedOne, sendOn, ackSending, failedBy, nacked}
 
 -- ---- a move to a transaction
 pub exists-send : (m : Move) (n : ℕ) → Exists m → m ≡ Send n → n < 64
@@ -24,12 +34,12 @@ exists-send m n h e = rw e at h
 pub ruleset moves = (exists-send)
 
 -- ---- one byte more is one of the buffer
-pub byte-in : (l : List ℕ) (n k len : ℕ) (x : Next) → Running l n → Ready x k (getD l (n + 1) 0) → x ≡ More → len ≡ 4352 → startOf l n + k < len
+pub byte-in : (l : List ℕ) (n k len : ℕ) (x : Next) → Running l n → Ready x k (getD l (n + 1) 0) → x ≡ More → len ≡ bufferSize → startOf l n + k < len
 byte-in l n k len x r y q e =
     let h : k < getD l (n + 1) 0 = rw q at y in
     let g = start-next l n (getD l 0 0) (r .below) in omega arith
 
-pub current-in : (l q : List ℕ) (n s k len : ℕ) → Counting l q n → s ≡ startOf l n → k ≡ getD q n 0 → len ≡ 4352 → s + k < len
+pub current-in : (l q : List ℕ) (n s k len : ℕ) → Counting l q n → s ≡ startOf l n → k ≡ getD q n 0 → len ≡ bufferSize → s + k < len
 current-in l q n s k len r p e w = let g = start-next l n (getD l 0 0) (r .running .below) in omega arith
 
 -- ---- what each turn may rely on
@@ -51,3 +61,27 @@ module _ (c : Channel) (t : Turn) (h : Meets c t) where
 
   pub meets-begin : t ≡ Begin → countOf c ≤ 64
   meets-begin e = rw e at h
+
+-- ---- a walk from its parts
+pub onward-of : (c : Channel) (n : ℕ) (t : Tail) (halt : Bool) (to count : ℕ) (m : Move) (s : List ℕ) (r : Stepped) → r ≡ movedTo (withStatus c s) t m
+    → m ≡ moveOf halt to count → s ≡ marked (c .status) (n + 1) to → halt ≡ haltOf (c .head)
+    → to ≡ reachOf halt n (c .slatable) (c .tranconfig) → count ≡ countOf c → r ≡ onward c n t
+unfolding onward passed
+onward-of c n t halt to count m s r q e1 e2 e3 e4 e5 = rw (q, e1, e2, e4, e3, e5)
+
+pub begun-of : (c : Channel) (count : ℕ) (fit : Bool) (b : Beginning) (r : Stepped) → r ≡ beganBy c b → b ≡ beginningOf count fit
+    → fit ≡ fitting (c .tranconfig) → count ≡ countOf c → r ≡ begun c
+unfolding begun
+begun-of c count fit b r q e1 e2 e3 = rw (q, e1, e2, e3)
+
+pub nacked-of : (c : Channel) (n v : ℕ) (read masked : Bool) (h : Head) (r : Stepped) → r ≡ failedBy (withHead (resolved c n v) h) n masked
+    → h ≡ noted (c .head) read → masked ≡ maskedOf (c .head .regs .intmsk) read → read ≡ readsOf (slaveOf c n) → r ≡ nacked c n v
+unfolding nacked
+nacked-of c n v read masked h r q e1 e2 e3 = rw (q, e1, e2, e3)
+
+pub ack-sending-of : (c : Channel) (m : List ℕ) (n k len : ℕ) (x : Next) (halt : Bool) (l : List ℕ) (r : Stepped) → r ≡ sendOn (withCounts c l) m n (k + 1) x
+    → l ≡ set (c .bytecount) n (bytesOf c n + 1) → x ≡ nextOf halt (k + 1) len → halt ≡ haltOf (c .head) → k ≡ bytesOf c n → len ≡ lengthOf c n → r ≡ ackSending c m n
+unfolding ackSending countedOne
+ack-sending-of c m n k len x halt l r q e1 e2 e3 e4 e5 = rw (q, e1, e2, e3, e4, e5)
+
+pub ruleset walks = (onward-of, begun-of, nacked-of, ack-sending-of)

@@ -6,7 +6,7 @@ use Prim.Native.Nat.{ℕ, zero, suc, _+_, _<_, _≤_}
 use native.Mathlib.Omega.{arith}
 use borrow.Author.Tests.{lt-ltb, eq-eqb, ltb-true, eqb-true, eqb-false}
 use lib.Dec.{eqb, ltb}
-use lib.ListN.{getD, set, getD-replicate}
+use lib.ListN.{length, getD, set, length-set, getD-replicate}
 use Rattle.laws.specs.Pick.{if_then_else_}
 use Rattle.laws.specs.Cases.{pick-holds, past, both, on, with}
 use Rattle.rules.specs.declared.state.Phase.{Phase}
@@ -14,14 +14,12 @@ use Rattle.rules.specs.declared.state.Phase.the-variants.{Idle, Address, Sendin
 use Rattle.rules.specs.declared.state.Walk.{Walk}
 use Rattle.sequence.specs.declared.wires.Action.{Action}
 use Rattle.sequence.specs.declared.wires.Event.{Event}
-use Rattle.sequence.specs.declared.wires.Event.the-variants.{Ack, Nack, Byte, Tick, Stop, Sda, Scl, Ill}
 use Rattle.sequence.specs.declared.wires.Edge.{Edge}
 use Rattle.sequence.specs.declared.wires.Fault.{Fault}
 use Rattle.sequence.specs.declared.wires.Fault.the-variants.{Dae, Cle, Sse}
 use Rattle.sequence.specs.declared.wires.Beat.{Beat}
 use Rattle.sequence.specs.declared.wires.Beat.the-variants.{Quiet, Begin, Late}
 use Rattle.sequence.specs.declared.wires.Turn.{Turn}
-use Rattle.sequence.specs.declared.wires.Turn.the-variants.{Unawaited}
 use Rattle.sequence.specs.declared.wires.Move.{Move}
 use Rattle.sequence.specs.declared.wires.Move.the-variants.{Halt, Send}
 use Rattle.sequence.specs.declared.wires.Next.{Next}
@@ -33,27 +31,29 @@ use Rattle.sequence.specs.declared.wires.Ending.{Ending}
 use Rattle.sequence.specs.declared.wires.Ending.the-variants.{Fe, Error, Sd, Wait}
 use Rattle.rules.specs.Tables.{fitting, readsOf, skippedOf, firstSent}
 use Rattle.rules.specs.Range.{pointersIn, registersIn, countingOf, endedIn, blankOf, recordedIn, walkIn, countedIn, frameAt, frameIn}
-use Rattle.sequence.specs.Wires.{beginningOf, reachOf, moveOf, nextOf, restOf, endingOf}
-use Rattle.sequence.specs.Wires.{ackTurn, nackTurn, byteTurn, beatOf, beatTurn, tickingOf, tickTurn, stopTurn, sdaTurn, sclTurn, turnOf, matchesOf, edgeBeat}
+use Rattle.sequence.specs.Wires.{beginningOf, reachOf, moveOf, nextOf, restOf, endingOf, beatOf, turnOf, matchesOf, edgeBeat}
+use Rattle.sequence.specs.Laws.Meeting.{Meeting, meeting}
+use Rattle.sequence.specs.Laws.Meeting.Meeting.{unawaited as unawaited′, ack-address as ack-address′, ack-sending as ack-sending′, receive as receive′}
+use Rattle.sequence.specs.Laws.Meeting.Meeting.{nack-address as nack-address′, nack-sending as nack-sending′, begin as begin′, late as late′, end as end′, sda as sda′, scl as scl′, ill as ill′}
 use Rattle.sequence.specs.Walk.{idle, waiting, feRecorded, endWalk, lateFlags, lateWalk}
 use Rattle.rules.specs.Laws.Tables.{first-from}
-use Rattle.rules.specs.Laws.Range.{Stands, stands-of, of-stands, first-stands, stands-counted, registers-count}
+use Rattle.rules.specs.Laws.Range.{Stands, stands-of, of-stands, frame-counted, first-stands, stands-counted, registers-count}
 use Rattle.channel.specs.declared.state.Channel.{Channel}
 use Rattle.channel.specs.declared.state.Stepped.{Stepped}
-use Rattle.channel.specs.State.{countOf, framecntOf, withFlags, withWalk, idled}
+use Rattle.channel.specs.State.{Served, on as beside, countOf, withHead, withWalk, withState}
+use Rattle.channel.specs.Head.{framecntOf, haltOf, femskOf, idled, endedBy, frameEnded, stopped, clocked, noted, failed, lateBy, faulted}
 use Rattle.channel.specs.Range.{inRange}
-use Rattle.channel.specs.Wires.{lengthOf, bytesOf, haltOf, resolved, endedBy, frameEnded, passed, stopped, sentTo, movedTo, onward, finished, startedBy, started, cleared, beganBy, begun}
-use Rattle.channel.specs.Wires.{byteSent, sendOn, clocked, ackAddress, countedOne, ackSending, receiveOn, received, noted, failed, failedBy, nacked}
-use Rattle.channel.specs.Wires.{lateBy, faulted, turned, femskOf, beaten, triggered}
+use Rattle.channel.specs.Wires.{lengthOf, bytesOf, resolved, passed, sentTo, movedTo, onward, finished, startedBy, started, cleared, beganBy, begun}
+use Rattle.channel.specs.Wires.{byteSent, sendOn, ackAddress, countedOne, ackSending, receiveOn, received, failedBy, nacked, turned, beaten, triggered}
 use Rattle.channel.specs.Laws.Range.{range-pointers, range-registers, range-walk, range-frame}
 
 -- ---- the range as its four facts
 abbrev pub In : Channel → Type 0
 In c =
-    (pointersIn (c .ptrs) ≡ true)
-    × (registersIn (countOf c) (c .regs .transel) (c .regs .intmsk) ≡ true)
-    × (walkIn (c .walk) (c .regs .te) (framecntOf c) ≡ true)
-    × (frameIn (c .walk .phase) (c .slatable) (c .tranconfig) (c .bytecount) ≡ true)
+    (pointersIn (c .head .ptrs) ≡ true)
+    × (registersIn (countOf c) (c .head .regs .transel) (c .head .regs .intmsk) ≡ true)
+    × (walkIn (c .head .walk) (c .head .regs .te) (framecntOf (c .head)) ≡ true)
+    × (frameIn (c .head .walk .phase) (c .slatable) (c .tranconfig) (c .bytecount) ≡ true)
 
 pub in-of : (c : Channel) → inRange c ≡ true → In c
 in-of c e = (range-pointers c e, range-registers c e, range-walk c e, range-frame c e)
@@ -65,15 +65,19 @@ of-in c h = with _ _ (h .0) (with _ _ (h .1) (with _ _ (h .2) (h .3)))
 abbrev pub Good : Stepped → Type 0
 Good r = In (r .channel)
 
+-- and of all that a step leaves: in range, and as many bytes
+abbrev pub Fine : List ℕ → Served → Type 0
+Fine m d = Good (d .stepped) × (length (d .bytes) ≡ length m)
+
 -- ---- what of it no frame changes
 abbrev pub Held : Channel → Type 0
-Held c = (pointersIn (c .ptrs) ≡ true) × (registersIn (countOf c) (c .regs .transel) (c .regs .intmsk) ≡ true)
+Held c = (pointersIn (c .head .ptrs) ≡ true) × (registersIn (countOf c) (c .head .regs .transel) (c .head .regs .intmsk) ≡ true)
 
 -- ---- the number of ended frames
 
 -- it is one that an active channel may have
 abbrev pub Ends : Channel → ℕ → Type 0
-Ends c n = endedIn Waiting (c .regs .te) (framecntOf c) n ≡ true
+Ends c n = endedIn Waiting (c .head .regs .te) (framecntOf (c .head)) n ≡ true
 
 either : (b : Bool) → (if b then b else true) ≡ true
 unfolding if_then_else_
@@ -96,11 +100,11 @@ idle-walk : (te : Bool) (n : ℕ) → walkIn idle te n ≡ true
 unfolding walkIn endedIn countingOf recordedIn blankOf if_then_else_
 idle-walk te n = refl
 
-idled-in : (c : Channel) → Held c → In (idled c)
+idled-in : (c : Channel) → Held c → In (withHead c (idled (c .head)))
 unfolding frameIn
 idled-in c h = (h .0, h .1, idle-walk _ _, refl)
 
-pub waited-in : (c : Channel) (n : ℕ) → Held c → Ends c n → In (withWalk c (waiting n))
+pub waited-in : (c : Channel) (n : ℕ) → Held c → Ends c n → In (withHead c (withWalk (c .head) (waiting n)))
 unfolding frameIn walkIn recordedIn blankOf if_then_else_
 waited-in c n h e = (h .0, h .1, with _ _ e refl, refl)
 
@@ -125,30 +129,30 @@ ending-waits te n fe error sto seq r h =
     (λ _. pick-holds (Waits te n) error (λ _. tt)
     (λ _. pick-holds (Waits te n) sto (λ _. tt) (λ _. pick-holds (Waits te n) seq (λ _. tt) (λ _. h))))
 
-ended-in : (c : Channel) (e : Ending) → Held c → Waits (c .regs .te) (framecntOf c) e → In (endedBy c e)
+ended-in : (c : Channel) (e : Ending) → Held c → Waits (c .head .regs .te) (framecntOf (c .head)) e → In (withHead c (endedBy (c .head) e))
 unfolding Waits endWalk
 ended-in c Fe h w = idled-in c h
 ended-in c Error h w = idled-in c h
 ended-in c Sd h w = idled-in c h
 ended-in c (Wait n) h w = waited-in c n h w
 
-pub left-in : (c : Channel) → Held c → In (endedBy c Sd)
+pub left-in : (c : Channel) → Held c → In (withHead c (endedBy (c .head) Sd))
 unfolding Waits
 left-in c h = ended-in c Sd h tt
 
-frame-ended : (c : Channel) → Held c → In (frameEnded c)
+frame-ended : (c : Channel) → Held c → In (withHead c (frameEnded (c .head)))
 unfolding frameEnded
 frame-ended c h = ended-in c _ h (ending-waits _ _ _ _ _ _ _ (rest-waits _ _ _))
 
 -- ---- a frame under way: no error end is noted, and the number of ended frames may be that of an active channel
 abbrev pub Runs : Channel → Type 0
-Runs c = Held c × (not (c .walk .error) ≡ true) × Ends c (c .walk .ended)
+Runs c = Held c × (not (c .head .walk .error) ≡ true) × Ends c (c .head .walk .ended)
 
 -- and it stands at transaction n
 abbrev RunsAt : Channel → ℕ → Type 0
 RunsAt c n = Runs c × Stands (c .slatable) (c .tranconfig) (c .bytecount) n
 
-stopped-in : (c : Channel) (a : Action) → Runs c → Good (stopped c a)
+stopped-in : (c : Channel) (a : Action) → Runs c → Good (beside c (stopped (c .head) a))
 unfolding stopped walkIn endedIn countingOf recordedIn frameIn
 stopped-in c a r = (r .0 .0, r .0 .1, with _ _ (r .2) refl, refl)
 
@@ -158,8 +162,8 @@ Sends c Halt = Unit {0}
 Sends c (Send n) = Stands (c .slatable) (c .tranconfig) (c .bytecount) n × (bytesOf c n ≡ 0)
 
 sent-in : (c : Channel) (n : ℕ) (a : Action) → Runs c → Stands (c .slatable) (c .tranconfig) (c .bytecount) n → bytesOf c n ≡ 0 → Good (sentTo c n a)
-unfolding sentTo walkIn endedIn countingOf recordedIn frameIn frameAt countedIn
-sent-in c n a r s z = (r .0 .0, r .0 .1, with _ _ (r .2) (r .1), with _ _ (of-stands _ _ _ _ s) (eq-eqb _ _ z))
+unfolding sentTo walkIn endedIn countingOf recordedIn frameIn countedIn
+sent-in c n a r s z = (r .0 .0, r .0 .1, with _ _ (r .2) (r .1), of-stands (Address n) _ _ _ n s (eq-eqb _ _ z))
 
 moved-in : (c : Channel) (t : Tail) (m : Move) → Runs c → Sends c m → Good (movedTo c t m)
 unfolding movedTo Sends
@@ -167,7 +171,7 @@ moved-in c t Halt r s = stopped-in c _ r
 moved-in c t (Send n) r s = sent-in c n _ r (s .0) (s .1)
 
 -- the transaction that a walk finds from `from`, where nothing is counted from there on
-found : (c : Channel) (from to : ℕ) → countOf c ≤ 64 → fitting (c .tranconfig) (countOf c) ≡ true
+found : (c : Channel) (from to : ℕ) → countOf c ≤ 64 → fitting (c .tranconfig) ≡ true
     → ((k : ℕ) → from ≤ k → k < 64 → getD (c .bytecount) k 0 ≡ 0)
     → to ≡ firstSent (c .slatable) (c .tranconfig) from (countOf c) → from ≤ to → ltb to (countOf c) ≡ true → Sends c (Send to)
 unfolding Sends
@@ -176,7 +180,7 @@ found c from to few fits clear e f t =
     (rw e (first-stands (c .slatable) (c .tranconfig) (c .bytecount) from few fits clear (rw e at h)), clear to f (omega arith))
 
 -- the walk's next move, from `from`
-walk-sends : (c : Channel) (from : ℕ) → countOf c ≤ 64 → fitting (c .tranconfig) (countOf c) ≡ true
+walk-sends : (c : Channel) (from : ℕ) → countOf c ≤ 64 → fitting (c .tranconfig) ≡ true
     → ((k : ℕ) → from ≤ k → k < 64 → getD (c .bytecount) k 0 ≡ 0)
     → Sends c (moveOf false (firstSent (c .slatable) (c .tranconfig) from (countOf c)) (countOf c))
 unfolding moveOf if_then_else_ Sends
@@ -199,7 +203,7 @@ sends-passed c from to (Send k) h = h
 -- ---- behind transaction n
 onward-in : (c : Channel) (n : ℕ) (t : Tail) → RunsAt c n → Good (onward c n t)
 unfolding onward passed
-onward-in c n t r = moved-in _ t _ (r .0) (sends-passed c _ _ _ (next-sends c n (haltOf c) (r .1)))
+onward-in c n t r = moved-in _ t _ (r .0) (sends-passed c _ _ _ (next-sends c n (haltOf (c .head)) (r .1)))
 
 finished-in : (c : Channel) (n : ℕ) (t : Tail) → RunsAt c n → Good (finished c n t)
 unfolding finished
@@ -211,7 +215,7 @@ unfolding startedBy Sends
 started-by-in c Halt r s = frame-ended c (r .0)
 started-by-in c (Send n) r s = sent-in c n _ r (s .0) (s .1)
 
-started-in : (c : Channel) → Runs c → countOf c ≤ 64 → fitting (c .tranconfig) (countOf c) ≡ true
+started-in : (c : Channel) → Runs c → countOf c ≤ 64 → fitting (c .tranconfig) ≡ true
     → ((k : ℕ) → 0 ≤ k → k < 64 → getD (c .bytecount) k 0 ≡ 0) → Good (started c)
 unfolding started passed
 started-in c r few fits clear = started-by-in _ _ r (sends-passed c 0 _ _ (walk-sends c 0 few fits clear))
@@ -219,13 +223,13 @@ started-in c r few fits clear = started-by-in _ _ r (sends-passed c 0 _ _ (walk-
 Begins : Channel → Beginning → Type 0
 Begins c Empty = Unit {0}
 Begins c Unfit = Unit {0}
-Begins c Fit = fitting (c .tranconfig) (countOf c) ≡ true
+Begins c Fit = fitting (c .tranconfig) ≡ true
 
-begins : (c : Channel) → Begins c (beginningOf (countOf c) (fitting (c .tranconfig) (countOf c)))
+begins : (c : Channel) → Begins c (beginningOf (countOf c) (fitting (c .tranconfig)))
 unfolding Begins beginningOf
 begins c =
     pick-holds (Begins c) (eqb (countOf c) 0) (λ _. tt)
-    (λ _. pick-holds (Begins c) (fitting (c .tranconfig) (countOf c)) (λ t. t) (λ _. tt))
+    (λ _. pick-holds (Begins c) (fitting (c .tranconfig)) (λ t. t) (λ _. tt))
 
 began-in : (c : Channel) (b : Beginning) → Runs c → Begins c b → Good (beganBy c b)
 unfolding Begins beganBy cleared
@@ -253,10 +257,10 @@ next-short c n k halt h =
     (λ _. tt)
 
 send-on : (c : Channel) (m : List ℕ) (n k : ℕ) (x : Next) → RunsAt c n → readsOf (getD (c .slatable) n 0) ≡ false → Short c n x → Good (sendOn c m n k x)
-unfolding sendOn byteSent Short walkIn endedIn countingOf recordedIn frameIn frameAt countedIn
+unfolding sendOn byteSent Short walkIn endedIn countingOf recordedIn frameIn countedIn
 send-on c m n k Cut r w s = stopped-in c _ (r .0)
 send-on c m n k More r w s =
-    (r .0 .0 .0, r .0 .0 .1, with _ _ (r .0 .2) (r .0 .1), with _ _ (of-stands _ _ _ _ (r .1)) (on _ _ w (lt-ltb _ _ s)))
+    (r .0 .0 .0, r .0 .0 .1, with _ _ (r .0 .2) (r .0 .1), of-stands (Sending n) _ _ _ n (r .1) (on _ _ w (lt-ltb _ _ s)))
 send-on c m n k Over r w s = finished-in c n _ r
 
 -- a read that is not skipped has a length
@@ -264,17 +268,17 @@ read-length : (sla len : ℕ) → readsOf sla ≡ true → skippedOf sla len ≡
 unfolding skippedOf if_then_else_
 read-length sla len r e = let h = eqb-false len 0 (rw r at e) in omega arith
 
-clocked-in : (c : Channel) (n : ℕ) → RunsAt c n → readsOf (getD (c .slatable) n 0) ≡ true → bytesOf c n ≡ 0 → Good (clocked c n)
-unfolding clocked walkIn endedIn countingOf recordedIn frameIn frameAt countedIn
+clocked-in : (c : Channel) (n : ℕ) → RunsAt c n → readsOf (getD (c .slatable) n 0) ≡ true → bytesOf c n ≡ 0 → Good (beside c (clocked (c .head) n))
+unfolding clocked walkIn endedIn countingOf recordedIn frameIn countedIn
 clocked-in c n r d z =
     let l = read-length _ _ d (r .1 .sent) in
-    (r .0 .0 .0, r .0 .0 .1, with _ _ (r .0 .2) (r .0 .1), with _ _ (of-stands _ _ _ _ (r .1)) (with _ _ d (lt-ltb (bytesOf c n) (lengthOf c n) (omega arith))))
+    (r .0 .0 .0, r .0 .0 .1, with _ _ (r .0 .2) (r .0 .1), of-stands (Receiving n) _ _ _ n (r .1) (with _ _ d (lt-ltb (bytesOf c n) (lengthOf c n) (omega arith))))
 
 ack-address : (c : Channel) (m : List ℕ) (n : ℕ) → RunsAt c n → bytesOf c n ≡ 0 → Good (ackAddress c m n)
 unfolding ackAddress
 ack-address c m n r z =
     pick-holds Good (readsOf (getD (c .slatable) n 0)) (λ t. clocked-in c n r t z)
-    (λ t. send-on c m n 0 _ r t (next-short c n 0 (haltOf c) (omega arith)))
+    (λ t. send-on c m n 0 _ r t (next-short c n 0 (haltOf (c .head)) (omega arith)))
 
 -- one byte more counted
 counted-le : (l : List ℕ) (n v : ℕ) → getD (set l n v) n 0 ≤ v
@@ -288,28 +292,28 @@ counted-runs c n r = (r .0, stands-counted _ _ _ n _ (r .1))
 
 ack-sending : (c : Channel) (m : List ℕ) (n : ℕ) → RunsAt c n → readsOf (getD (c .slatable) n 0) ≡ false → Good (ackSending c m n)
 unfolding ackSending countedOne
-ack-sending c m n r w = send-on (countedOne c n) m n _ _ (counted-runs c n r) w (next-short (countedOne c n) n _ (haltOf c) (counted-le (c .bytecount) n _))
+ack-sending c m n r w = send-on (countedOne c n) m n _ _ (counted-runs c n r) w (next-short (countedOne c n) n _ (haltOf (c .head)) (counted-le (c .bytecount) n _))
 
-receive-on : (c : Channel) (n : ℕ) (x : Next) → RunsAt c n → readsOf (getD (c .slatable) n 0) ≡ true → c .walk .phase ≡ Receiving n → Short c n x → Good (receiveOn c n x)
-unfolding receiveOn Short walkIn endedIn countingOf recordedIn frameIn frameAt countedIn
+receive-on : (c : Channel) (n : ℕ) (x : Next) → RunsAt c n → readsOf (getD (c .slatable) n 0) ≡ true → c .head .walk .phase ≡ Receiving n → Short c n x → Good (receiveOn c n x)
+unfolding receiveOn Short walkIn endedIn countingOf recordedIn frameIn countedIn
 receive-on c n Cut r d q s = stopped-in c _ (r .0)
 receive-on c n More r d q s =
-    (r .0 .0 .0, r .0 .0 .1, rw q (with _ _ (r .0 .2) (r .0 .1)), rw q (with _ _ (of-stands _ _ _ _ (r .1)) (with _ _ d (lt-ltb _ _ s))))
+    (r .0 .0 .0, r .0 .0 .1, rw q (with _ _ (r .0 .2) (r .0 .1)), rw q (of-stands (Receiving n) _ _ _ n (r .1) (with _ _ d (lt-ltb _ _ s))))
 receive-on c n Over r d q s = finished-in c n _ r
 
-received-in : (c : Channel) (n : ℕ) → RunsAt c n → readsOf (getD (c .slatable) n 0) ≡ true → c .walk .phase ≡ Receiving n → Good (received c n)
+received-in : (c : Channel) (m : List ℕ) (n b : ℕ) → RunsAt c n → readsOf (getD (c .slatable) n 0) ≡ true → c .head .walk .phase ≡ Receiving n → Good (received c m n b .stepped)
 unfolding received countedOne
-received-in c n r d q = receive-on (countedOne c n) n _ (counted-runs c n r) d q (next-short (countedOne c n) n _ (haltOf c) (counted-le (c .bytecount) n _))
+received-in c m n b r d q = receive-on (countedOne c n) n _ (counted-runs c n r) d q (next-short (countedOne c n) n _ (haltOf (c .head)) (counted-le (c .bytecount) n _))
 
 -- ---- NACK
-failed-in : (c : Channel) → Runs c → Good (failed c)
+failed-in : (c : Channel) → Runs c → Good (beside c (failed (c .head)))
 unfolding failed walkIn endedIn countingOf recordedIn frameIn
 failed-in c r = (r .0 .0, r .0 .1, with _ _ (r .2) refl, refl)
 
 nacked-in : (c : Channel) (n v : ℕ) → RunsAt c n → Good (nacked c n v)
 unfolding nacked failedBy
 nacked-in c n v r =
-    let d = noted (resolved c n v) (readsOf (getD (c .slatable) n 0)) in
+    let d = withHead (resolved c n v) (noted (c .head) (readsOf (getD (c .slatable) n 0))) in
     pick-holds Good _ (λ _. onward-in d n _ r) (λ _. failed-in d (r .0))
 
 -- ---- an event in the phase that it meets
@@ -317,21 +321,20 @@ module _ (c : Channel) (m : List ℕ) (h : In c) where
   -- what the range says of phase p
   abbrev pub In-phase : Phase → Type 0
   In-phase p =
-      (c .walk .phase ≡ p)
-      × (endedIn p (c .regs .te) (framecntOf c) (c .walk .ended) ≡ true)
-      × (recordedIn p (c .walk) ≡ true)
+      (c .head .walk .phase ≡ p)
+      × (endedIn p (c .head .regs .te) (framecntOf (c .head)) (c .head .walk .ended) ≡ true)
+      × (recordedIn p (c .head .walk) ≡ true)
       × (frameIn p (c .slatable) (c .tranconfig) (c .bytecount) ≡ true)
 
-  pub phase-in : In-phase (c .walk .phase)
+  pub phase-in : In-phase (c .head .walk .phase)
   unfolding walkIn
   phase-in = let w = both _ _ (h .2) in (refl, w .0, w .1, h .3)
 
   few : countOf c ≤ 64
   few = registers-count _ _ _ (h .1)
 
-  runs-at : (p : Phase) (n : ℕ) → Ends c (c .walk .ended) → (not (c .walk .error) ≡ true) → frameAt p n (c .slatable) (c .tranconfig) (c .bytecount) ≡ true → RunsAt c n
-  unfolding frameAt
-  runs-at p n e r f = (((h .0, h .1), r, e), stands-of _ _ _ n few (both _ _ f .0))
+  runs-at : (p : Phase) (n : ℕ) → Ends c (c .head .walk .ended) → (not (c .head .walk .error) ≡ true) → frameAt p n (c .slatable) (c .tranconfig) (c .bytecount) ≡ true → RunsAt c n
+  runs-at p n e r f = (((h .0, h .1), r, e), stands-of p _ _ _ n few f)
 
   address-runs : (n : ℕ) → In-phase (Address n) → RunsAt c n
   unfolding endedIn countingOf recordedIn frameIn
@@ -346,62 +349,35 @@ module _ (c : Channel) (m : List ℕ) (h : In c) where
   receiving-runs n i = runs-at (Receiving n) n (i .1) (i .2) (i .3)
 
   address-none : (n : ℕ) → In-phase (Address n) → bytesOf c n ≡ 0
-  unfolding frameIn frameAt countedIn
-  address-none n i = eqb-true _ _ (both _ _ (i .3) .1)
+  unfolding frameIn countedIn
+  address-none n i = eqb-true _ _ (frame-counted (Address n) _ _ _ n (i .3))
 
   sending-writes : (n : ℕ) → In-phase (Sending n) → readsOf (getD (c .slatable) n 0) ≡ false
-  unfolding frameIn frameAt countedIn
-  sending-writes n i = past _ _ (both _ _ (i .3) .1) .0
+  unfolding frameIn countedIn
+  sending-writes n i = past _ _ (frame-counted (Sending n) _ _ _ n (i .3)) .0
 
   receiving-reads : (n : ℕ) → In-phase (Receiving n) → readsOf (getD (c .slatable) n 0) ≡ true
-  unfolding frameIn frameAt countedIn
-  receiving-reads n i = both _ _ (both _ _ (i .3) .1) .0
-
-  ack-in : (p : Phase) → In-phase p → Good (turned c m (ackTurn p))
-  unfolding turned
-  ack-in Idle i = h
-  ack-in (Address n) i = ack-address c m n (address-runs n i) (address-none n i)
-  ack-in (Sending n) i = ack-sending c m n (sending-runs n i) (sending-writes n i)
-  ack-in (Receiving n) i = h
-  ack-in Stopping i = h
-  ack-in Waiting i = h
-
-  nack-in : (p : Phase) → In-phase p → Good (turned c m (nackTurn p))
-  unfolding turned
-  nack-in Idle i = h
-  nack-in (Address n) i = nacked-in c n _ (address-runs n i)
-  nack-in (Sending n) i = nacked-in c n _ (sending-runs n i)
-  nack-in (Receiving n) i = h
-  nack-in Stopping i = h
-  nack-in Waiting i = h
-
-  byte-in : (p : Phase) (b : ℕ) → In-phase p → Good (turned c m (byteTurn p b))
-  unfolding turned
-  byte-in Idle b i = h
-  byte-in (Address n) b i = h
-  byte-in (Sending n) b i = h
-  byte-in (Receiving n) b i = received-in c n (receiving-runs n i) (receiving-reads n i) (i .0)
-  byte-in Stopping b i = h
-  byte-in Waiting b i = h
+  unfolding frameIn countedIn
+  receiving-reads n i = both _ _ (frame-counted (Receiving n) _ _ _ n (i .3)) .0
 
   -- another walk in the same phase, with as many frames ended
-  pub rewalked : (w : Walk) → w .phase ≡ c .walk .phase → w .ended ≡ c .walk .ended → (p : Phase) → In-phase p → recordedIn p w ≡ true → In (withWalk c w)
+  pub rewalked : (w : Walk) → w .phase ≡ c .head .walk .phase → w .ended ≡ c .head .walk .ended → (p : Phase) → In-phase p → recordedIn p w ≡ true → In (withHead c (withWalk (c .head) w))
   unfolding walkIn
   rewalked w q e p i r =
       let s = sym (q ∙ i .0) in (
         h .0,
         h .1,
         with _ _
-            (subst (λ (x : Phase). endedIn x (c .regs .te) (framecntOf c) (w .ended) ≡ true) s (rw e (i .1)))
+            (subst (λ (x : Phase). endedIn x (c .head .regs .te) (framecntOf (c .head)) (w .ended) ≡ true) s (rw e (i .1)))
             (subst (λ (x : Phase). recordedIn x w ≡ true) s r),
         subst (λ (x : Phase). frameIn x (c .slatable) (c .tranconfig) (c .bytecount) ≡ true) s (i .3),
       )
 
   -- late: FE set is a flag; FE recorded is no error end
-  late-in : (p : Phase) → In-phase p → recordedIn p (feRecorded (c .walk)) ≡ true → In (lateBy c)
+  late-in : (p : Phase) → In-phase p → recordedIn p (feRecorded (c .head .walk)) ≡ true → In (withHead c (lateBy (c .head)))
   unfolding lateWalk
   late-in p i r =
-      pick-holds (λ (w : Walk). In (withWalk (withFlags c (lateFlags (c .flags) (femskOf c))) w)) (femskOf c)
+      pick-holds (λ (w : Walk). In (withHead c (withState (c .head) (lateFlags (c .head .flags) (femskOf (c .head))) w))) (femskOf (c .head))
       (λ _. h)
       (λ _. rewalked _ refl refl p i r)
 
@@ -411,9 +387,6 @@ module _ (c : Channel) (m : List ℕ) (h : In c) where
       let a = past _ _ (i .2) .1 in
       let b = past _ _ a .1 in
       let e = past _ _ (past _ _ b .1) .0 in ((h .0, h .1), rw e, i .1)
-
-  GoodTurn : Turn → Type 0
-  GoodTurn t = Good (turned c m t)
 
   GoodBeat : Beat → Type 0
   GoodBeat b = Good (beaten c b)
@@ -428,69 +401,35 @@ module _ (c : Channel) (m : List ℕ) (h : In c) where
   beaten-in Stopping i = late-in Stopping i refl
   beaten-in Waiting i = begun-in c (waiting-runs i)
 
-  -- a TICK is such a beat, or is not awaited
-  ticked-in : (b : Beat) → GoodBeat b → GoodTurn (beatTurn b)
-  unfolding GoodBeat GoodTurn beaten turned
-  ticked-in Quiet g = h
-  ticked-in Begin g = g
-  ticked-in Late g = g
-
-  stop-in : (p : Phase) → Good (turned c m (stopTurn p))
-  unfolding turned
-  stop-in Idle = h
-  stop-in (Address n) = h
-  stop-in (Sending n) = h
-  stop-in (Receiving n) = h
-  stop-in Stopping = frame-ended c (h .0, h .1)
-  stop-in Waiting = h
-
-  fault-in : (f : Fault) → In (faulted c f)
+  fault-in : (f : Fault) → In (withHead c (faulted (c .head) f))
   fault-in f = idled-in c (h .0, h .1)
 
-  sda-in : (p : Phase) → Good (turned c m (sdaTurn p))
-  unfolding turned
-  sda-in Idle = h
-  sda-in (Address n) = fault-in Dae
-  sda-in (Sending n) = h
-  sda-in (Receiving n) = h
-  sda-in Stopping = h
-  sda-in Waiting = h
-
-  scl-in : (p : Phase) → Good (turned c m (sclTurn p))
-  unfolding turned
-  scl-in Idle = h
-  scl-in (Address n) = fault-in Cle
-  scl-in (Sending n) = fault-in Cle
-  scl-in (Receiving n) = fault-in Cle
-  scl-in Stopping = fault-in Cle
-  scl-in Waiting = fault-in Cle
-
-  unawaited-in : GoodTurn Unawaited
-  unfolding GoodTurn turned
-  unawaited-in = h
-
-  event-in : (p : Phase) (e : Event) → In-phase p → GoodTurn (turnOf p (c .regs .te) (framecntOf c) e)
-  unfolding GoodTurn turnOf tickTurn turned
-  event-in p Ack i = ack-in p i
-  event-in p Nack i = nack-in p i
-  event-in p (Byte b) i = byte-in p b i
-  event-in p Tick i = pick-holds GoodTurn (tickingOf (c .regs .te) (framecntOf c)) (λ _. ticked-in (beatOf p) (beaten-in p i)) (λ _. unawaited-in)
-  event-in p Stop i = stop-in p
-  event-in p Sda i = sda-in p
-  event-in p Scl i = scl-in p
-  event-in p Ill i = fault-in Sse
+  -- each turn, by what the event meets
+  met-in : (p : Phase) (e : Event) (t : Turn) → Meeting p e t → In-phase p → Fine m (turned c m t)
+  unfolding turned received GoodBeat beaten
+  met-in p e t unawaited′ i = (h, refl)
+  met-in p e t (ack-address′ {n}) i = (ack-address c m n (address-runs n i) (address-none n i), refl)
+  met-in p e t (ack-sending′ {n}) i = (ack-sending c m n (sending-runs n i) (sending-writes n i), refl)
+  met-in p e t (receive′ {n} {b}) i = (received-in c m n b (receiving-runs n i) (receiving-reads n i) (i .0), length-set m _ b)
+  met-in p e t (nack-address′ {n}) i = (nacked-in c n _ (address-runs n i), refl)
+  met-in p e t (nack-sending′ {n}) i = (nacked-in c n _ (sending-runs n i), refl)
+  met-in p e t begin′ i = (begun-in c (waiting-runs i), refl)
+  met-in p e t (late′ q) i = (subst GoodBeat q (beaten-in p i), refl)
+  met-in p e t end′ i = (frame-ended c (h .0, h .1), refl)
+  met-in p e t sda′ i = (fault-in Dae, refl)
+  met-in p e t (scl′ q) i = (fault-in Cle, refl)
+  met-in p e t ill′ i = (fault-in Sse, refl)
 
   -- NO EVENT LEADS OUT OF RANGE
-  pub turn-in : (e : Event) → Good (turned c m (turnOf (c .walk .phase) (c .regs .te) (framecntOf c) e))
-  unfolding GoodTurn
-  turn-in e = event-in (c .walk .phase) e phase-in
+  pub turn-in : (e : Event) → Fine m (turned c m (turnOf (c .head .walk .phase) (c .head .regs .te) (framecntOf (c .head)) e))
+  turn-in e = met-in (c .head .walk .phase) e _ (meeting _ (c .head .regs .te) (framecntOf (c .head)) e) phase-in
 
   -- NO TRIGGER EDGE LEADS OUT OF RANGE
-  edge-in : (edge : Edge) → GoodBeat (edgeBeat (c .walk .phase) (c .regs .te) (c .regs .tp) edge)
+  edge-in : (edge : Edge) → GoodBeat (edgeBeat (c .head .walk .phase) (c .head .regs .te) (c .head .regs .tp) edge)
   unfolding edgeBeat GoodBeat beaten
   edge-in edge =
-      pick-holds GoodBeat (c .regs .te)
-      (λ _. pick-holds GoodBeat (matchesOf (c .regs .tp) edge) (λ _. beaten-in (c .walk .phase) phase-in) (λ _. h))
+      pick-holds GoodBeat (c .head .regs .te)
+      (λ _. pick-holds GoodBeat (matchesOf (c .head .regs .tp) edge) (λ _. beaten-in (c .head .walk .phase) phase-in) (λ _. h))
       (λ _. h)
 
 pub trigger-in-range : (c : Channel) (edge : Edge) → inRange c ≡ true → inRange (triggered c edge .channel) ≡ true

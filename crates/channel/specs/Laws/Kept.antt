@@ -18,28 +18,27 @@ use Rattle.rules.specs.declared.registers.Register.the-variants.{Status, Contro
 use Rattle.rules.specs.declared.registers.Place.{Place}
 use Rattle.rules.specs.declared.registers.Place.the-variants.{Here, Elsewhere}
 use Rattle.sequence.specs.declared.wires.Event.{Event}
-use Rattle.sequence.specs.declared.wires.Turn.{Turn}
-use Rattle.sequence.specs.declared.wires.Turn.the-variants.{Unawaited, AckAddress, AckSending, NackAddress, NackSending, Receive, Begin as BeginTurn, Late, End, Fault}
 use Rattle.sequence.specs.declared.wires.Ask.{Ask}
 use Rattle.sequence.specs.declared.wires.Ask.the-variants.{Nothing, Overrun, Begin, Wait, Sto, Seq, Leave}
+use Rattle.rules.specs.Numbers.{bufferSize, done, outOfRange}
 use Rattle.rules.specs.Registers.{activeOf, commandOf, maskKept, placeOf}
 use Rattle.rules.specs.Tables.{startOf}
 use Rattle.rules.specs.Access.{lockedOf, tooMany, keptIf, rewound, atMost, pointedAt, overrunOf, presetOf, keyAfter, resetsOf}
 use Rattle.rules.specs.Range.{pointersIn, registersIn, countingOf, endedIn, blankOf, recordedIn, walkIn, frameIn}
 use Rattle.sequence.specs.Wires.{startAsked, stopAsked, leaveAsked, askedIn, askOf}
 use Rattle.sequence.specs.Walk.{stoRecorded, seqRecorded}
-use Rattle.rules.specs.Laws.Access.{not-busy, not-past, placed, sla-open, conf-open, data-open, sel-open}
+use Rattle.rules.specs.Laws.Access.{not-busy, not-past, placed, spot-open, sla-open, conf-open, data-open, sel-open}
 use Rattle.rules.specs.Laws.Range.{points-of, of-points, of-registers, registers-count, registers-sel, registers-mask}
 use Rattle.channel.specs.declared.state.Channel.{Channel}
-use Rattle.channel.specs.declared.state.Stepped.{Stepped}
 use Rattle.channel.specs.declared.step.Op.{Op}
 use Rattle.channel.specs.declared.step.Op.the-variants.{Write, Read, Wire}
-use Rattle.channel.specs.State.{fresh, zeros, guarded, framecntOf, withWalk, withKey}
+use Rattle.channel.specs.State.{Served, fresh, zeros, guarded, withHead}
+use Rattle.channel.specs.Head.{framecntOf, stoTaken, seqTaken}
 use Rattle.channel.specs.Range.{inRange}
-use Rattle.channel.specs.Wires.{turnStore}
-use Rattle.channel.specs.Access.{readRefusal, readBy, readOf, moded, pointed, dataPlace, teAfter, asked, controlled, refusalOf, writtenBy, storedBy, writeOf, writeStore, putOf, putStore}
-use Rattle.channel.specs.Step.{writeAt, storeAt, readAt, turnAt, eventAt, eventStore, servedBy, servedStore, rangeNumber, stepOf, bytesAfter}
-use Rattle.channel.specs.Laws.Frames.{In, in-of, of-in, Good, Runs, In-phase, phase-in, rewalked, zero-ends, waited-in, left-in, begun-in, turn-in}
+use Rattle.channel.specs.Access.{readRefusal, readBy, readOf, moded, pointed, dataPlace, teAfter, asked, controlled, refusalOf, writtenBy, writeOf, keyed, putOf}
+use Rattle.channel.specs.Step.{writeAt, readAt, eventAt, servedBy, rangeNumber, outcomeOf, stepOf, bytesAfter}
+use Rattle.channel.specs.Facts.{Accepted}
+use Rattle.channel.specs.Laws.Frames.{In, in-of, of-in, Good, Fine, Runs, In-phase, phase-in, rewalked, zero-ends, waited-in, left-in, begun-in, turn-in}
 
 -- ---- where no frame is under way, the tables may change
 idle-frame : (p : Phase) (s l b : List ℕ) → activeOf p ≡ false → frameIn p s l b ≡ true
@@ -94,15 +93,20 @@ rewound-le : (b : Bool) (n k : ℕ) → n ≤ k → rewound b n ≤ k
 unfolding rewound
 rewound-le b n k h = pick-holds (λ (x : ℕ). x ≤ k) b (λ _. omega arith) (λ _. h)
 
-pointed-le : (b : Bool) (place at : ℕ) → at ≤ 4352 → pointedAt b place at ≤ 4352
+pointed-le : (b : Bool) (place at : ℕ) → at ≤ bufferSize → pointedAt b place at ≤ bufferSize
 unfolding pointedAt atMost
 pointed-le b place at h =
-    pick-holds (λ (x : ℕ). x ≤ 4352) b
-    (λ _. pick-holds (λ (x : ℕ). x ≤ 4352) (ltb place 4352) (λ t. let g = ltb-true place 4352 t in omega arith) (λ _. omega arith))
+    pick-holds (λ (x : ℕ). x ≤ bufferSize) b
+    (λ _. pick-holds (λ (x : ℕ). x ≤ bufferSize) (ltb place bufferSize) (λ t. let g = ltb-true place bufferSize t in omega arith) (λ _. omega arith))
     (λ _. h)
 
 -- ---- CONTROL
-control-in : (c : Channel) (k : Command) → In c → In (pointed (moded c k) k)
+
+-- TP, TE and the pointers are written
+abbrev ready : Channel → Command → Channel
+ready c k = withHead c (pointed (moded (c .head) k) k (dataPlace (c .head) (c .tranconfig)))
+
+control-in : (c : Channel) (k : Command) → In c → In (ready c k)
 control-in c k h =
     let p = points-of _ (h .0) in (
       of-points _ (record {
@@ -112,7 +116,7 @@ control-in c k h =
         buf = pointed-le _ _ _ (p .buf);
       }),
       h .1,
-      te-kept (c .walk) (c .regs .te) (k .te) (framecntOf c) (h .2),
+      te-kept (c .head .walk) (c .head .regs .te) (k .te) (framecntOf (c .head)) (h .2),
       h .3,
     )
 
@@ -122,8 +126,8 @@ Asks c Nothing = Unit {0}
 Asks c Overrun = Unit {0}
 Asks c Begin = Runs c
 Asks c Wait = Unit {0}
-Asks c Sto = In (withWalk c (stoRecorded (c .walk)))
-Asks c Seq = In (withWalk c (seqRecorded (c .walk)))
+Asks c Sto = In (withHead c (stoTaken (c .head)))
+Asks c Seq = In (withHead c (seqTaken (c .head)))
 Asks c Leave = Unit {0}
 
 asked-in : (c : Channel) (a : Ask) → In c → Asks c a → Good (asked c a)
@@ -147,13 +151,13 @@ module _ (c : Channel) (h : In c) where
       let a = past _ _ (i .2) .1 in
       let b = past _ _ a .1 in
       let e = past _ _ (past _ _ b .1) .0 in
-      let z : c .walk .ended ≡ 0 = idle-none _ _ _ (i .1) in ((h .0, h .1), rw e, rw z (zero-ends _ _))
+      let z : c .head .walk .ended ≡ 0 = idle-none _ _ _ (i .1) in ((h .0, h .1), rw e, rw z (zero-ends _ _))
 
   start-asks : (sta te : Bool) → Runs c → Asks c (startAsked sta te)
   unfolding startAsked Asks
   start-asks sta te r = pick-holds (Asks c) sta (λ _. pick-holds (Asks c) te (λ _. tt) (λ _. r)) (λ _. tt)
 
-  stop-asks : (sto seq : Bool) (p : Phase) → In-phase c [] h p → recordedIn p (stoRecorded (c .walk)) ≡ true → recordedIn p (seqRecorded (c .walk)) ≡ true → Asks c (stopAsked sto seq)
+  stop-asks : (sto seq : Bool) (p : Phase) → In-phase c [] h p → recordedIn p (stoRecorded (c .head .walk)) ≡ true → recordedIn p (seqRecorded (c .head .walk)) ≡ true → Asks c (stopAsked sto seq)
   unfolding stopAsked Asks
   stop-asks sto seq p i r s =
       pick-holds (Asks c) sto (λ _. rewalked c [] h _ refl refl p i r)
@@ -177,12 +181,12 @@ unfolding controlled askOf Asks
 controlled-in c k h =
     let g = control-in c k h in
     asked-in _ _ g
-    (pick-holds (Asks (pointed (moded c k) k)) (overrunOf (k .aiptrrst) (dataPlace c))
+    (pick-holds (Asks (ready c k)) (overrunOf (k .aiptrrst) (dataPlace (c .head) (c .tranconfig)))
     (λ _. tt)
-    (λ _. asks _ g (c .walk .phase) k (teAfter c k) (phase-in (pointed (moded c k) k) [] g)))
+    (λ _. asks _ g (c .head .walk .phase) k (teAfter (c .head) k) (phase-in (ready c k) [] g)))
 
 -- ---- reads
-read-in : (c : Channel) (m : List ℕ) (reg : Register) → readRefusal (c .ptrs) reg ≡ 0 → In c → Good (readBy c m reg)
+read-in : (c : Channel) (m : List ℕ) (reg : Register) → readRefusal (c .head .ptrs) reg ≡ 0 → In c → Good (readBy c m reg)
 unfolding readRefusal readBy
 read-in c m (Status n) e h = h
 read-in c m Control e h = h
@@ -190,21 +194,21 @@ read-in c m Chstatus e h = h
 read-in c m Intmsk e h = h
 read-in c m Slatable e h =
     let p = points-of _ (h .0) in
-    let g = not-past 63 (c .ptrs .sla) e in
+    let g = not-past 63 (c .head .ptrs .sla) e in
     (of-points _ (record { sla = omega arith; count = p .count; conf = p .conf; buf = p .buf }), h .1, h .2, h .3)
 read-in c m Tranconfig e h =
     let p = points-of _ (h .0) in
-    let g = not-past 64 (c .ptrs .conf) e in
+    let g = not-past 64 (c .head .ptrs .conf) e in
     (of-points _ (record { sla = p .sla; count = p .count; conf = omega arith; buf = p .buf }), h .1, h .2, h .3)
 read-in c m Data e h =
     let p = points-of _ (h .0) in
-    let g = placed (c .ptrs .buf) e in
+    let g = spot-open (c .head .ptrs .buf) e in
     (of-points _ (record { sla = p .sla; count = p .count; conf = p .conf; buf = omega arith }), h .1, h .2, h .3)
 read-in c m Transel e h = h
 read-in c m Tranofs e h = h
 read-in c m Bytecount e h =
     let p = points-of _ (h .0) in
-    let g = not-past 63 (c .ptrs .count) e in
+    let g = not-past 63 (c .head .ptrs .count) e in
     (of-points _ (record { sla = p .sla; count = omega arith; conf = p .conf; buf = p .buf }), h .1, h .2, h .3)
 read-in c m (Setting n) e h = h
 read-in c m Preset e h = h
@@ -213,157 +217,125 @@ read-in c m Preset e h = h
 mask-clear : (v : ℕ) → maskKept v / 2 % 8 ≡ 0
 mask-clear v = omega arith
 
-write-in : (c : Channel) (reg : Register) (v : ℕ) → refusalOf c reg v ≡ 0 → In c → Good (writtenBy c reg v)
+write-in : (c : Channel) (m : List ℕ) (reg : Register) (v : ℕ) → refusalOf (c .head) (c .tranconfig) reg v ≡ 0 → In c → Fine m (writtenBy c m reg v)
 unfolding refusalOf writtenBy
-write-in c (Status n) v e h = h
-write-in c Control v e h = controlled-in c (commandOf v) h
-write-in c Chstatus v e h = h
-write-in c Intmsk v e h = (h .0, of-registers _ _ _ (registers-count _ _ _ (h .1)) (registers-sel _ _ _ (h .1)) (mask-clear v), h .2, h .3)
-write-in c Slatable v e h =
+write-in c m (Status n) v e h = (h, refl)
+write-in c m Control v e h = (controlled-in c (commandOf v) h, refl)
+write-in c m Chstatus v e h = (h, refl)
+write-in c m Intmsk v e h = ((h .0, of-registers _ _ _ (registers-count _ _ _ (h .1)) (registers-sel _ _ _ (h .1)) (mask-clear v), h .2, h .3), refl)
+write-in c m Slatable v e h =
     let p = points-of _ (h .0) in
-    let g = sla-open (c .walk .phase) (c .ptrs .sla) e in
-    (of-points _ (record { sla = omega arith; count = p .count; conf = p .conf; buf = p .buf }), h .1, h .2, idle-frame (c .walk .phase) _ _ _ (g .0))
-write-in c Tranconfig v e h =
+    let g = sla-open (c .head .walk .phase) (c .head .ptrs .sla) e in
+    ((of-points _ (record { sla = omega arith; count = p .count; conf = p .conf; buf = p .buf }), h .1, h .2, idle-frame (c .head .walk .phase) _ _ _ (g .0)), refl)
+write-in c m Tranconfig v e h =
     let p = points-of _ (h .0) in
-    let g = conf-open (c .walk .phase) (c .ptrs .conf) v e in (
-      of-points _ (record { sla = p .sla; count = p .count; conf = omega arith; buf = p .buf }),
-      of-registers _ _ _ (entry-0 (c .tranconfig) (c .ptrs .conf) v (registers-count _ _ _ (h .1)) (not-many _ v (g .2))) (registers-sel _ _ _ (h .1)) (registers-mask _ _ _ (h .1)),
-      h .2,
-      open-frame (c .walk .phase) (c .ptrs .conf) _ _ _ (g .0),
+    let g = conf-open (c .head .walk .phase) (c .head .ptrs .conf) v e in (
+      (
+        of-points _ (record { sla = p .sla; count = p .count; conf = omega arith; buf = p .buf }),
+        of-registers _ _ _ (entry-0 (c .tranconfig) (c .head .ptrs .conf) v (registers-count _ _ _ (h .1)) (not-many _ v (g .2))) (registers-sel _ _ _ (h .1)) (registers-mask _ _ _ (h .1)),
+        h .2,
+        open-frame (c .head .walk .phase) (c .head .ptrs .conf) _ _ _ (g .0),
+      ),
+      refl,
     )
-write-in c Data v e h =
+write-in c m Data v e h =
     let p = points-of _ (h .0) in
-    let g = data-open (c .walk .phase) (c .ptrs .buf) e in
-    (of-points _ (record { sla = p .sla; count = p .count; conf = p .conf; buf = omega arith }), h .1, h .2, h .3)
-write-in c Transel v e h =
+    let g = data-open (c .head .walk .phase) (c .head .ptrs .buf) e in
+    ((of-points _ (record { sla = p .sla; count = p .count; conf = p .conf; buf = omega arith }), h .1, h .2, h .3), length-set m _ v)
+write-in c m Transel v e h =
     let p = points-of _ (h .0) in
     let g = sel-open (c .tranconfig) v e in (
-      of-points _ (record { sla = p .sla; count = p .count; conf = p .conf; buf = omega arith }),
-      of-registers _ _ _ (registers-count _ _ _ (h .1)) (g .0) (registers-mask _ _ _ (h .1)),
-      h .2,
-      h .3,
+      (
+        of-points _ (record { sla = p .sla; count = p .count; conf = p .conf; buf = omega arith }),
+        of-registers _ _ _ (registers-count _ _ _ (h .1)) (g .0) (registers-mask _ _ _ (h .1)),
+        h .2,
+        h .3,
+      ),
+      refl,
     )
-write-in c Tranofs v e h =
+write-in c m Tranofs v e h =
     let p = points-of _ (h .0) in
-    let g = placed (startOf (c .tranconfig) (c .regs .transel) + v) e in
-    (of-points _ (record { sla = p .sla; count = p .count; conf = p .conf; buf = omega arith }), h .1, h .2, h .3)
-write-in c Bytecount v e h = h
-write-in c (Setting n) v e h =
-    let a = not-busy (c .walk .phase) e in
-    (h .0, h .1, idle-walked (c .walk) _ _ _ _ a (h .2), h .3)
-write-in c Preset v e h = h
+    let g = placed (startOf (c .tranconfig) (c .head .regs .transel) + v) e in
+    ((of-points _ (record { sla = p .sla; count = p .count; conf = p .conf; buf = omega arith }), h .1, h .2, h .3), refl)
+write-in c m Bytecount v e h = (h, refl)
+write-in c m (Setting n) v e h =
+    let a = not-busy (c .head .walk .phase) e in
+    ((h .0, h .1, idle-walked (c .head .walk) _ _ _ _ a (h .2), h .3), refl)
+write-in c m Preset v e h = (h, refl)
 
 -- ---- a step from its number: what holds of the channel, and of what follows where the number is 0
-guarded-in : (n : ℕ) (c : Channel) (d : Stepped) → In c → (n ≡ 0 → Good d) → Good (guarded n c d)
+guarded-in : (n : ℕ) (c : Channel) (m : List ℕ) (d : Served) → In c → (n ≡ done → Fine m d) → Fine m (guarded n c m d)
 unfolding guarded
-guarded-in n c d h f = pick-holds Good (eqb n 0) (λ t. f (eqb-true n 0 t)) (λ _. h)
+guarded-in n c m d h f = pick-holds (Fine m) (eqb n done) (λ t. f (eqb-true n done t)) (λ _. (h, refl))
 
 fresh-in : In fresh
 unfolding pointersIn registersIn walkIn endedIn countingOf recordedIn blankOf frameIn if_then_else_
 fresh-in = (refl, refl, refl, refl)
 
-put-in : (c : Channel) (reg : Register) (v : ℕ) → In c → Good (putOf c reg v)
-unfolding putOf writeOf
-put-in c reg v h =
-    pick-holds Good (resetsOf (presetOf reg) v (c .key)) (λ _. fresh-in)
-    (λ _. guarded-in _ (withKey c (keyAfter (presetOf reg) v)) _ h (λ e. write-in (withKey c (keyAfter (presetOf reg) v)) reg v e h))
+pub zeros-length : length zeros ≡ bufferSize
+unfolding zeros
+zeros-length = length-replicate {A = ℕ} bufferSize 0
 
 -- ---- the step
-module _ (c : Channel) (m : List ℕ) (number : ℕ) (h : In c) where
-  write-at : (p : Place) (v : ℕ) → Good (writeAt c p v)
+module _ (c : Channel) (m : List ℕ) (number : ℕ) (h : In c) (whole : length m ≡ bufferSize) where
+  put-in : (reg : Register) (v : ℕ) → Fine m (putOf c m reg v)
+  unfolding putOf writeOf
+  put-in reg v =
+      pick-holds (Fine m) (resetsOf (presetOf reg) v (c .head .key)) (λ _. (fresh-in, zeros-length ∙ sym whole))
+      (λ _. guarded-in _ (keyed c reg v) m _ h (λ e. write-in (keyed c reg v) m reg v e h))
+
+  write-at : (p : Place) (v : ℕ) → Fine m (writeAt c m p v)
   unfolding writeAt
-  write-at (Here reg) v = put-in c reg v h
-  write-at Elsewhere v = h
+  write-at (Here reg) v = put-in reg v
+  write-at Elsewhere v = (h, refl)
 
-  read-at : (p : Place) → Good (readAt c m p)
+  read-at : (p : Place) → Fine m (readAt c m p)
   unfolding readAt readOf
-  read-at (Here reg) = guarded-in _ c _ h (λ e. read-in c m reg e h)
-  read-at Elsewhere = h
+  read-at (Here reg) = guarded-in _ c m _ h (λ e. (read-in c m reg e h, refl))
+  read-at Elsewhere = (h, refl)
 
-  event-at : (e : Event) → Good (eventAt c m number e)
+  event-at : (e : Event) → Fine m (eventAt c m number e)
   unfolding eventAt
-  event-at e = pick-holds Good (ltb 2 number) (λ _. h) (λ _. turn-in c m h e)
+  event-at e = pick-holds (Fine m) (ltb 2 number) (λ _. (h, refl)) (λ _. turn-in c m h e)
 
-  served-in : (op : Op) → Good (servedBy c m number op)
+  served-in : (op : Op) → Fine m (servedBy c m number op)
   unfolding servedBy
   served-in (Write a v) = write-at (placeOf number a) v
   served-in (Read a) = read-at (placeOf number a)
   served-in (Wire e) = event-at e
 
+whole-of : (len : ℕ) (ok : Bool) → rangeNumber len ok ≡ done → len ≡ bufferSize
+unfolding rangeNumber
+whole-of len ok e = eqb-true len bufferSize (accepted (eqb len bufferSize) _ outOfRange (omega arith) e .0)
+
+ranged-of : (len : ℕ) (ok : Bool) → rangeNumber len ok ≡ done → ok ≡ true
+unfolding rangeNumber
+ranged-of len ok e = accepted ok done outOfRange (omega arith) (accepted (eqb len bufferSize) _ outOfRange (omega arith) e .1) .0
+
+outcome-in : (c : Channel) (m : List ℕ) (number : ℕ) (op : Op) → In c → Fine m (outcomeOf c m number op)
+unfolding outcomeOf
+outcome-in c m number op h = guarded-in _ c m _ h (λ z. served-in c m number h (whole-of (length m) (inRange c) z) op)
+
 -- NO STEP LEADS OUT OF RANGE
 pub stays-in-range : (c : Channel) (m : List ℕ) (number : ℕ) (op : Op) → inRange c ≡ true → inRange (stepOf c m number op .channel) ≡ true
-unfolding stepOf
-stays-in-range c m number op e = let h = in-of c e in of-in _ (guarded-in _ c _ h (λ _. served-in c m number h op))
+stays-in-range c m number op e = of-in _ (outcome-in c m number op (in-of c e) .0)
 
--- the same of a step that the whole part makes of a channel in range
-pub serves-in-range : (c : Channel) (m : List ℕ) (number : ℕ) (op : Op) → inRange c ≡ true → inRange (servedBy c m number op .channel) ≡ true
-serves-in-range c m number op e = of-in _ (served-in c m number (in-of c e) op)
+-- the same of a step that the whole part makes of a channel in range; and it keeps the number of bytes
+module _ (c : Channel) (m : List ℕ) (number : ℕ) (op : Op) (a : Accepted c m) where
+  pub serves-in-range : inRange (servedBy c m number op .stepped .channel) ≡ true
+  serves-in-range = of-in _ (served-in c m number (in-of c (a .ranged)) (a .whole) op .0)
+
+  pub served-length : length (servedBy c m number op .bytes) ≡ length m
+  served-length = served-in c m number (in-of c (a .ranged)) (a .whole) op .1
 
 -- the reset state is in range
 pub fresh-in-range : inRange fresh ≡ true
 fresh-in-range = of-in fresh fresh-in
 
--- ---- A STEP KEEPS THE NUMBER OF BYTES
-pub zeros-length : length zeros ≡ 4352
-unfolding zeros
-zeros-length = length-replicate {A = ℕ} 4352 0
-
-abbrev Same : List ℕ → List ℕ → Type 0
-Same m l = length l ≡ length m
-
-stored-length : (c : Channel) (m : List ℕ) (reg : Register) (v : ℕ) → Same m (storedBy c m reg v)
-unfolding storedBy
-stored-length c m (Status n) v = refl
-stored-length c m Control v = refl
-stored-length c m Chstatus v = refl
-stored-length c m Intmsk v = refl
-stored-length c m Slatable v = refl
-stored-length c m Tranconfig v = refl
-stored-length c m Data v = length-set m _ v
-stored-length c m Transel v = refl
-stored-length c m Tranofs v = refl
-stored-length c m Bytecount v = refl
-stored-length c m (Setting n) v = refl
-stored-length c m Preset v = refl
-
-turned-length : (c : Channel) (m : List ℕ) (t : Turn) → Same m (turnStore c m t)
-unfolding turnStore
-turned-length c m Unawaited = refl
-turned-length c m (AckAddress n) = refl
-turned-length c m (AckSending n) = refl
-turned-length c m (NackAddress n) = refl
-turned-length c m (NackSending n) = refl
-turned-length c m (Receive n b) = length-set m _ b
-turned-length c m BeginTurn = refl
-turned-length c m Late = refl
-turned-length c m End = refl
-turned-length c m (Fault f) = refl
-
-module _ (c : Channel) (m : List ℕ) (number : ℕ) (whole : length m ≡ 4352) where
-  put-length : (reg : Register) (v : ℕ) → Same m (putStore c m reg v)
-  unfolding putStore writeStore
-  put-length reg v =
-      pick-holds (Same m) (resetsOf (presetOf reg) v (c .key)) (λ _. zeros-length ∙ sym whole)
-      (λ _. pick-holds (Same m) (eqb (refusalOf (withKey c (keyAfter (presetOf reg) v)) reg v) 0) (λ _. stored-length _ m reg v) (λ _. refl))
-
-  store-length : (p : Place) (v : ℕ) → Same m (storeAt c m p v)
-  unfolding storeAt
-  store-length (Here reg) v = put-length reg v
-  store-length Elsewhere v = refl
-
-  pub served-length : (op : Op) → length (servedStore c m number op) ≡ length m
-  unfolding servedStore eventStore
-  served-length (Write a v) = store-length (placeOf number a) v
-  served-length (Read a) = refl
-  served-length (Wire e) = pick-holds (Same m) (ltb 2 number) (λ _. refl) (λ _. turned-length c m (turnAt c e))
-
-whole-of : (len : ℕ) (ok : Bool) → rangeNumber len ok ≡ 0 → len ≡ 4352
-unfolding rangeNumber
-whole-of len ok e = eqb-true len 4352 (accepted (eqb len 4352) _ 9 (omega arith) e .0)
-
+-- A STEP KEEPS THE NUMBER OF BYTES
 pub length-bytes : (c : Channel) (m : List ℕ) (number : ℕ) (op : Op) → length (bytesAfter c m number op) ≡ length m
-unfolding bytesAfter
+unfolding outcomeOf guarded
 length-bytes c m number op =
-    pick-holds (Same m) (eqb (rangeNumber (length m) (inRange c)) 0)
-    (λ t. served-length c m number (whole-of (length m) (inRange c) (eqb-true _ 0 t)) op)
+    pick-holds (λ (d : Served). length (d .bytes) ≡ length m) (eqb (rangeNumber (length m) (inRange c)) done)
+    (λ t. served-in c m number (in-of c (ranged-of _ _ (eqb-true _ done t))) (whole-of (length m) (inRange c) (eqb-true _ done t)) op .1)
     (λ _. refl)

@@ -3,8 +3,9 @@ use Prim.Native.Nat.{ℕ, _<_}
 use mathlib.Core.List.{List}
 use mathlib.Core.Path.{_≡_, ap, subst, sym}
 use native.Mathlib.Omega.{arith}
-use Rattle.mixes.specs.Mix.{Mix, All, Machine, OfSome, stepsOf}
-use Rattle.mixes.specs.Laws.Apart.{Apart, StepOf, all-map, mixed-is-sequential}
+use Rattle.laws.specs.Lists.{All, all-map}
+use Rattle.mixes.specs.Mix.{Mix, Machine, OfSome, stepsOf}
+use Rattle.mixes.specs.Laws.Apart.{Apart, StepOf, mixed-is-sequential}
 use Rattle.mixes.specs.Laws.Logs.{mixed-logs}
 use Rattle.mixes.specs.Laws.Every.{every-mix, all-own}
 use Rattle.part.specs.Registers.{interruptOf}

@@ -6,7 +6,8 @@ use mathlib.Core.Path.{_≡_, refl, sym, _∙_, ap}
 use borrow.Author.Tests.{eqb-true, eqb-false}
 use lib.Dec.{eqb}
 use Rattle.laws.specs.Pick.{if_then_else_}
-use Rattle.mixes.specs.Mix.{Mix, All, Machine, ends, log, only}
+use Rattle.laws.specs.Lists.{All}
+use Rattle.mixes.specs.Mix.{Mix, Machine, ends, log, only}
 use Rattle.mixes.specs.Mix.Mix.{done, first, second, third}
 
 -- `good` states stay good under the steps that `may` be taken; of two such steps of different channels, the one gets the same answer
@@ -25,11 +26,6 @@ module _ {S Step Ans : Type 0} where
   pub record Same (M : Machine S Step Ans) (s : S) (l r : List Step) : Type 0 where
     pub state : ends M s l ≡ ends M s r
     pub answers : (c : ℕ) → only M c (log M s l) ≡ only M c (log M s r)
-
--- every element has Q, if each has P and Q follows
-pub all-map : {A : Type 0} (P Q : A → Type 0) → ((a : A) → P a → Q a) → (l : List A) → All P l → All Q l
-all-map P Q f [] h = tt
-all-map P Q f (a ∷ l) h = (f a (h .0), all-map P Q f l (h .1))
 
 -- of a log, an entry that concerns the channel asked for
 abbrev keep : {A : Type 0} → Bool → A → List A → List A

@@ -6,7 +6,8 @@ use borrow.Author.Tests.{eqb-true}
 use lib.Dec.{eqb}
 use Rattle.laws.specs.Pick.{if_then_else_}
 use Rattle.laws.specs.Cases.{pick-holds}
-use Rattle.mixes.specs.Mix.{Mix, All, Machine, OfSome, stepsOf}
+use Rattle.laws.specs.Lists.{All}
+use Rattle.mixes.specs.Mix.{Mix, Machine, OfSome, stepsOf}
 use Rattle.mixes.specs.Mix.Mix.{done, first, second, third}
 use Rattle.mixes.specs.Laws.Apart.{StepOf}
 

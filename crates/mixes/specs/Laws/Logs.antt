@@ -3,9 +3,10 @@ use Prim.Native.Nat.{ℕ}
 use mathlib.Core.Path.{_≡_, refl, sym, _∙_, ap, subst}
 use mathlib.Core.List.{List, [], _∷_}
 use borrow.Author.Tests.{eqb-false}
-use Rattle.mixes.specs.Mix.{Mix, All, Machine, ends, log}
+use Rattle.laws.specs.Lists.{All, all-map}
+use Rattle.mixes.specs.Mix.{Mix, Machine, ends, log}
 use Rattle.mixes.specs.Mix.Mix.{done, first, second, third}
-use Rattle.mixes.specs.Laws.Apart.{Apart, StepOf, all-map}
+use Rattle.mixes.specs.Laws.Apart.{Apart, StepOf}
 
 module _ {S Step Ans : Type 0} (M : Machine S Step Ans) (good : S → Type 0) (may : Step → Type 0) (apart : Apart M good may) where
   -- steps of channels other than b's

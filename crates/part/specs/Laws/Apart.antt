@@ -3,22 +3,20 @@ use Prim.Native.Nat.{ℕ, _<_}
 use mathlib.Core.Bool.{Bool, true, false}
 use mathlib.Core.List.{List}
 use mathlib.Core.Path.{_≡_, refl, sym}
-use lib.Dec.{eqb}
 use lib.ListN.{length}
 use lib.Seq.{getD-set-other}
-use Rattle.laws.specs.Pick.{if_then_else_}
 use Rattle.channel.specs.declared.step.Op.{Op}
-use Rattle.channel.specs.Step.{servedBy}
 use Rattle.part.specs.declared.map.Step.{Step}
 use Rattle.part.specs.declared.map.Target.the-variants.{One}
 use Rattle.part.specs.declared.state.Part.{Part}
 use Rattle.part.specs.State.{blank, chan, window}
 use Rattle.part.specs.Map.{targetOf}
-use Rattle.part.specs.Step.{beAfter, oneStep, oneBytes, partServed, partStored, accepts, partStep, partBytes}
+use Rattle.part.specs.Step.{oneServed, oneStep, oneBytes, partServed, partStored, accepts, partStep, partBytes}
 use Rattle.part.specs.Laws.Map.{one-in-part}
 use Rattle.part.specs.Laws.Memory.{fits, window-other}
 use Rattle.part.specs.Laws.Range.{accepts-whole, step-accepted, bytes-accepted, step-refused, bytes-refused}
 use Rattle.part.specs.Laws.Kept.{one-length}
+use Rattle.part.specs.Facts.{Whole}
 
 -- of the part p with the memory m, all that is not channel c's is the same in q and n, BE and the key apart
 pub record Others (c : ℕ) (p : Part) (m : List ℕ) (q : Part) (n : List ℕ) : Type 0 where
@@ -27,34 +25,23 @@ pub record Others (c : ℕ) (p : Part) (m : List ℕ) (q : Part) (n : List ℕ) 
   pub mask : q .mask ≡ p .mask
 
 module _ (p : Part) (m : List ℕ) (c : ℕ) (op : Op) where
-  pub one-others : length m ≡ 13056 → c < 3 → Others c p m (oneStep p m c op .part) (oneBytes p m c op)
+  pub one-others : Whole p m → c < 3 → Others c p m (oneStep p m c op .part) (oneBytes p m c op)
   unfolding oneStep oneBytes
-  one-others whole h = record {
-    records = λ d ne. getD-set-other (p .channels) c d (servedBy (chan p c) (window c m) c op .channel) blank (λ e. ne (sym e));
-    windows = λ d ne. window-other c d _ m (one-length p m whole c op h) (fits c m h whole) ne;
+  one-others w h = record {
+    records = λ d ne. getD-set-other (p .channels) c d (oneServed p m c op .stepped .channel) blank (λ e. ne (sym e));
+    windows = λ d ne. window-other c d _ m (one-length p m w c op h) (fits c m h (w .whole)) ne;
     mask = refl;
   }
 
   module _ (s : Step) (is : targetOf s ≡ One op c) where
-    served-others : length m ≡ 13056 → Others c p m (partServed p m (targetOf s) .part) (partStored p m (targetOf s))
+    served-others : Whole p m → Others c p m (partServed p m (targetOf s) .part) (partStored p m (targetOf s))
     unfolding partServed partStored
-    served-others whole = rw is (one-others whole (one-in-part s c op is))
+    served-others w = rw is (one-others w (one-in-part s c op is))
 
     others : (b : Bool) → accepts p (length m) ≡ b → Others c p m (partStep p m s .part) (partBytes p m s)
-    others true e = rw (step-accepted p m s e, bytes-accepted p m s e) (served-others (accepts-whole p m e .whole))
+    others true e = rw (step-accepted p m s e, bytes-accepted p m s e) (served-others (accepts-whole p m e))
     others false e = rw (step-refused p m s e, bytes-refused p m s e) (record { records = λ d ne. refl; windows = λ d ne. refl; mask = refl })
 
     -- A CHANNEL'S STEP LEAVES THE OTHERS
     pub leaves-others : Others c p m (partStep p m s .part) (partBytes p m s)
     leaves-others = others (accepts p (length m)) refl
-
--- BE, which the channels share, is only ever set: it does not tell which of two answers came first
-pub be-swap : (be : Bool) (x y : ℕ) → beAfter (beAfter be x) y ≡ beAfter (beAfter be y) x
-unfolding beAfter if_then_else_
-be-swap be x y = go (eqb x 5) refl (eqb y 5) refl
-  where
-    go : (a : Bool) → eqb x 5 ≡ a → (b : Bool) → eqb y 5 ≡ b → beAfter (beAfter be x) y ≡ beAfter (beAfter be y) x
-    go true p true q = rw (p, q)
-    go true p false q = rw (p, q)
-    go false p true q = rw (p, q)
-    go false p false q = rw (p, q)

@@ -7,12 +7,14 @@ use native.Mathlib.Omega.{arith}
 use borrow.Author.Tests.{eq-eqb}
 use lib.ListN.{length, set, length-replicate}
 use Rattle.laws.specs.Cases.{pick-holds, both, with}
+use Rattle.rules.specs.Numbers.{bufferSize, memorySize}
 use Rattle.rules.specs.Access.{keyAfter, resetsOf}
+use Rattle.rules.specs.Interrupt.{ctrlKept, maskIn}
 use Rattle.sequence.specs.declared.wires.Edge.{Edge}
 use Rattle.channel.specs.declared.state.Channel.{Channel}
 use Rattle.channel.specs.declared.step.Op.{Op}
 use Rattle.channel.specs.Range.{inRange}
-use Rattle.channel.specs.Step.{servedStore, Accepted}
+use Rattle.channel.specs.Facts.{Accepted}
 use Rattle.channel.specs.Laws.Kept.{serves-in-range, fresh-in-range, served-length}
 use Rattle.channel.specs.Laws.Frames.{trigger-in-range}
 use Rattle.part.specs.declared.map.Ctrl.{Ctrl}
@@ -25,12 +27,13 @@ use Rattle.part.specs.declared.map.Wide.the-variants.{CtrlWrite, CtrlRea
 use Rattle.part.specs.declared.state.Part.{Part}
 use Rattle.part.specs.declared.state.PartStepped.{PartStepped}
 use Rattle.part.specs.State.{chan, freshPart, wiped, window, withKey}
-use Rattle.part.specs.Map.{targetOf, InPart}
-use Rattle.part.specs.Registers.{ctrlKept, ctrlRead, ctrlWritten, ctrlpresetOf, ctrlPut, ctrlStore}
-use Rattle.part.specs.Step.{edgeChannel, allServed, allStored, oneStep, oneBytes, triggerStep, partServed, partStored, channelsIn, maskIn, partIn, accepts, partStep, partBytes, Whole}
+use Rattle.part.specs.Map.{targetOf}
+use Rattle.part.specs.Registers.{ctrlRead, ctrlWritten, ctrlpresetOf, ctrlPut, ctrlStore}
+use Rattle.part.specs.Step.{edgeChannel, allServed, allStored, oneServed, oneStep, oneBytes, triggerStep, partServed, partStored, channelsIn, partIn, accepts, partStep, partBytes}
 use Rattle.part.specs.Laws.Map.{in-part}
 use Rattle.part.specs.Laws.Memory.{fits, length-window, length-put}
 use Rattle.part.specs.Laws.Range.{accepts-whole, chan-in-range}
+use Rattle.part.specs.Facts.{InPart, Whole}
 
 -- ---- the channels: with one in range in c's place, and each by a function that keeps it in range
 pub set-in : (l : List Channel) (c : ℕ) (x : Channel) → channelsIn l ≡ true → inRange x ≡ true → channelsIn (set l c x) ≡ true
@@ -63,10 +66,16 @@ fresh-in : In freshPart
 unfolding channelsIn
 fresh-in = (with _ _ fresh-in-range (with _ _ fresh-in-range (with _ _ fresh-in-range refl)), refl)
 
+-- ---- the channels of a part that no. 9 does not refuse are accepted, each with its own bytes
+pub chan-accepted : (p : Part) (m : List ℕ) (c : ℕ) → c < 3 → Whole p m → Accepted (chan p c) (window c m)
+chan-accepted p m c h w = record { ranged = chan-in-range p c (w .ranged); whole = length-window c m (fits c m h (w .whole)) }
+
 module _ (p : Part) (h : In p) where
-  one-in : (m : List ℕ) (c : ℕ) (op : Op) → Good (oneStep p m c op)
+  one-in : (m : List ℕ) (c : ℕ) (op : Op) → length m ≡ memorySize → c < 3 → Good (oneStep p m c op)
   unfolding Good oneStep
-  one-in m c op = (set-in (p .channels) c _ (h .0) (serves-in-range (chan p c) (window c m) c op (chan-in-range p c (of-in p h))), h .1)
+  one-in m c op whole q =
+      let a = chan-accepted p m c q (record { ranged = of-in p h; whole = whole }) in
+      (set-in (p .channels) c _ (h .0) (serves-in-range (chan p c) (window c m) c op a), h .1)
 
   trigger-in : (edge : Edge) → Good (triggerStep p edge)
   unfolding Good triggerStep
@@ -107,44 +116,44 @@ module _ (p : Part) (h : In p) where
   all-in AllReset = fresh-in
   all-in Beyond = h
 
-  served-in : (m : List ℕ) (t : Target) → Good (partServed p m t)
+  served-in : (m : List ℕ) (t : Target) → length m ≡ memorySize → InPart t → Good (partServed p m t)
   unfolding partServed
-  served-in m (One op c) = one-in m c op
-  served-in m (All t) = all-in t
+  served-in m (One op c) whole q = one-in m c op whole q
+  served-in m (All t) whole q = all-in t
 
 -- NO STEP LEADS OUT OF RANGE
 pub part-stays-in-range : (p : Part) (m : List ℕ) (s : Step) → partIn p ≡ true → partIn (partStep p m s .part) ≡ true
 unfolding partStep Good
 part-stays-in-range p m s e =
     let h = in-of p e in
-    of-in _ (pick-holds Good (accepts p (length m)) (λ _. served-in p h m (targetOf s)) (λ _. h))
+    of-in _ (pick-holds Good (accepts p (length m)) (λ t. served-in p h m (targetOf s) (accepts-whole p m t .whole) (in-part s)) (λ _. h))
 
 -- the reset state is in range
 pub fresh-part-in-range : partIn freshPart ≡ true
 fresh-part-in-range = of-in freshPart fresh-in
 
 -- ---- A STEP KEEPS THE NUMBER OF BYTES
-wiped-length : length wiped ≡ 13056
+wiped-length : length wiped ≡ memorySize
 unfolding wiped
-wiped-length = length-replicate {A = ℕ} 13056 0
+wiped-length = length-replicate {A = ℕ} memorySize 0
 
 Same : List ℕ → List ℕ → Type 0
 Same m l = length l ≡ length m
 
-module _ (p : Part) (m : List ℕ) (whole : length m ≡ 13056) where
-  pub one-length : (c : ℕ) (op : Op) → c < 3 → length (servedStore (chan p c) (window c m) c op) ≡ 4352
-  one-length c op h = let w = length-window c m (fits c m h whole) in served-length (chan p c) (window c m) c w op ∙ w
+module _ (p : Part) (m : List ℕ) (w : Whole p m) where
+  pub one-length : (c : ℕ) (op : Op) → c < 3 → length (oneServed p m c op .bytes) ≡ bufferSize
+  one-length c op h = let a = chan-accepted p m c h w in served-length (chan p c) (window c m) c op a ∙ a .whole
 
   one-bytes-length : (c : ℕ) (op : Op) → c < 3 → length (oneBytes p m c op) ≡ length m
   unfolding oneBytes
-  one-bytes-length c op h = length-put c _ m (one-length c op h) (fits c m h whole)
+  one-bytes-length c op h = length-put c _ m (one-length c op h) (fits c m h (w .whole))
 
   all-length : (t : Wide) → length (allStored p m t) ≡ length m
   unfolding allStored ctrlStore Same
-  all-length (CtrlWrite reg v) = pick-holds (Same m) (resetsOf (ctrlpresetOf reg) v (p .key)) (λ _. wiped-length ∙ sym whole) (λ _. refl)
+  all-length (CtrlWrite reg v) = pick-holds (Same m) (resetsOf (ctrlpresetOf reg) v (p .key)) (λ _. wiped-length ∙ sym (w .whole)) (λ _. refl)
   all-length (CtrlRead reg) = refl
   all-length (AllTrigger edge) = refl
-  all-length AllReset = wiped-length ∙ sym whole
+  all-length AllReset = wiped-length ∙ sym (w .whole)
   all-length Beyond = refl
 
   stored-length : (t : Target) → InPart t → Same m (partStored p m t)
@@ -156,13 +165,9 @@ pub part-length : (p : Part) (m : List ℕ) (s : Step) → length (partBytes p m
 unfolding partBytes Same
 part-length p m s =
     pick-holds (Same m) (accepts p (length m))
-    (λ t. stored-length p m (accepts-whole p m t .whole) (targetOf s) (in-part s))
+    (λ t. stored-length p m (accepts-whole p m t) (targetOf s) (in-part s))
     (λ _. refl)
 
 -- ---- what no. 9 does not refuse, it does not refuse after a step either
 pub whole-kept : (p : Part) (m : List ℕ) (s : Step) → Whole p m → Whole (partStep p m s .part) (partBytes p m s)
 whole-kept p m s w = record { ranged = part-stays-in-range p m s (w .ranged); whole = part-length p m s ∙ w .whole }
-
--- and its channels are accepted, each with its own bytes
-pub chan-accepted : (p : Part) (m : List ℕ) (c : ℕ) → c < 3 → Whole p m → Accepted (chan p c) (window c m)
-chan-accepted p m c h w = record { ranged = chan-in-range p c (w .ranged); whole = length-window c m (fits c m h (w .whole)) }

@@ -8,7 +8,8 @@ use Rattle.channel.specs.declared.step.Op.{Op}
 use Rattle.part.specs.declared.map.Step.{Step}
 use Rattle.part.specs.declared.map.Step.the-variants.{Write, Read, Wire, Trigger, Reset}
 use Rattle.part.specs.declared.map.Target.the-variants.{One}
-use Rattle.part.specs.Map.{channelAt, writeTarget, readTarget, wireTarget, targetOf, InPart}
+use Rattle.part.specs.Map.{channelAt, writeTarget, readTarget, wireTarget, targetOf}
+use Rattle.part.specs.Facts.{InPart}
 
 pub in-part : (s : Step) → InPart (targetOf s)
 unfolding targetOf writeTarget readTarget wireTarget

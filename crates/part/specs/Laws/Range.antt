@@ -8,13 +8,15 @@ use lib.ListN.{length, getD}
 use Rattle.laws.specs.Pick.{if_then_else_}
 use Rattle.laws.specs.Cases.{both, with}
 use Rattle.rules.specs.Range.{pointersIn, registersIn, countingOf, endedIn, blankOf, recordedIn, walkIn, frameIn}
+use Rattle.rules.specs.Numbers.{outOfRange}
 use Rattle.channel.specs.declared.state.Channel.{Channel}
 use Rattle.channel.specs.Range.{inRange}
 use Rattle.part.specs.declared.map.Step.{Step}
 use Rattle.part.specs.declared.state.Part.{Part}
 use Rattle.part.specs.State.{blank, chan, refusedPart}
 use Rattle.part.specs.Map.{targetOf}
-use Rattle.part.specs.Step.{channelsIn, partIn, accepts, partServed, partStored, partStep, partBytes, Whole}
+use Rattle.part.specs.Step.{channelsIn, partIn, accepts, partServed, partStored, partStep, partBytes}
+use Rattle.part.specs.Facts.{Whole}
 
 pub channels-of : (p : Part) → partIn p ≡ true → channelsIn (p .channels) ≡ true
 unfolding partIn
@@ -53,7 +55,7 @@ module _ (p : Part) (m : List ℕ) (s : Step) where
   unfolding partBytes if_then_else_
   bytes-accepted e = rw e
 
-  pub step-refused : accepts p (length m) ≡ false → partStep p m s ≡ refusedPart p 9
+  pub step-refused : accepts p (length m) ≡ false → partStep p m s ≡ refusedPart p outOfRange
   unfolding partStep if_then_else_
   step-refused e = rw e
 

@@ -1,21 +1,29 @@
 -- A part that is taken apart and put together is the same part, and stays it where a channel's head and row are put anew.
 use Prim.Native.Nat.{ℕ, zero, suc, _<_}
-use mathlib.Core.Bool.{true}
+use mathlib.Core.Bool.{true, false}
 use mathlib.Core.List.{List, [], _∷_, map}
 use mathlib.Core.Path.{_≡_, refl, sym, _∙_, ap, subst}
 use native.Mathlib.Omega.{arith}
+use borrow.Author.Tests.{not-true}
 use lib.ListN.{length, getD, set, length-map, length-set}
 use lib.Seq.{getD-set-other, getD-set-same}
+use Rattle.rules.specs.Interrupt.{beAfter}
 use Rattle.sequence.specs.declared.wires.Edge.{Edge}
 use Rattle.channel.specs.declared.state.Channel.{Channel}
 use Rattle.channel.specs.declared.state.Head.{Head}
 use Rattle.channel.specs.declared.state.Headed.{Headed}
 use Rattle.channel.specs.declared.state.Stepped.{Stepped}
 use Rattle.channel.specs.declared.step.Op.{Op}
-use Rattle.channel.specs.Head.{rejoined, headOf}
-use Rattle.channel.specs.Step.{servedBy, servedStore, Accepted}
+use Rattle.laws.specs.Pick.{if_then_else_}
+use Rattle.laws.specs.Cases.{past}
+use Rattle.rules.specs.Numbers.{done}
+use Rattle.sequence.specs.Wires.{edgeBeat}
+use Rattle.channel.specs.State.{Served, on, plain}
+use Rattle.channel.specs.Lent.{rejoined}
+use Rattle.channel.specs.Step.{servedBy}
+use Rattle.channel.specs.Facts.{Accepted}
 use Rattle.channel.specs.Range.{inRange}
-use Rattle.channel.specs.Wires.{triggered}
+use Rattle.channel.specs.Wires.{beaten, triggered}
 use Rattle.part.specs.declared.rows.Common.{Common}
 use Rattle.part.specs.declared.rows.Heads.{Heads}
 use Rattle.part.specs.declared.rows.HeadsStepped.{HeadsStepped}
@@ -27,9 +35,8 @@ use Rattle.part.specs.declared.map.Target.{Target}
 use Rattle.part.specs.declared.map.Target.the-variants.{One, All}
 use Rattle.part.specs.declared.map.Wide.{Wide}
 use Rattle.part.specs.Map.{targetOf}
-use Rattle.part.specs.State.{blank, chan, window, putWindow}
+use Rattle.part.specs.State.{told, quiet, blank, chan, window, putWindow}
 use Rattle.part.specs.Step.{
-  beAfter,
   triggerStep,
   commonAfter,
   commonOf,
@@ -44,7 +51,6 @@ use Rattle.part.specs.Step.{
   partIn,
   partStep,
   partBytes,
-  Whole,
 }
 use Rattle.part.specs.Laws.Kept.{chan-accepted}
 use Rattle.part.specs.Laws.Range.{chan-in-range, whole-accepts, step-accepted, bytes-accepted}
@@ -63,6 +69,7 @@ use Rattle.part.specs.Rows.{
   Gives,
   givenIn,
   Tells,
+  unarmedOf,
   withRow,
   OneReady,
   servedIn,
@@ -71,6 +78,7 @@ use Rattle.part.specs.Rows.{
   oneStored,
   EdgeGives,
 }
+use Rattle.part.specs.Facts.{Whole}
 
 -- ---- lists
 map-set : {A B : Type 0} (f : A → B) (l : List A) (i : ℕ) (x : A) → set (map f l) i (f x) ≡ map f (set l i x)
@@ -96,12 +104,11 @@ module _ (p : Part) where
   at-apart c =
       let l = p .channels in
       rw (
-        map-at headOf l c blank,
+        map-at (λ (x : Channel). x .head) l c blank,
         map-at (λ (x : Channel). x .slatable) l c blank,
         map-at (λ (x : Channel). x .tranconfig) l c blank,
         map-at (λ (x : Channel). x .status) l c blank,
         map-at (λ (x : Channel). x .bytecount) l c blank,
-        map-at (λ (x : Channel). x .settings) l c blank,
       )
 
   pub gathered-apart : length (p .channels) ≡ 3 → gathered (headsOf p) (rowsOf p) ≡ p
@@ -114,20 +121,18 @@ module _ (p : Part) where
         lens = length-map (p .channels) (λ (x : Channel). x .tranconfig) ∙ three;
         status = length-map (p .channels) (λ (x : Channel). x .status) ∙ three;
         counts = length-map (p .channels) (λ (x : Channel). x .bytecount) ∙ three;
-        settings = length-map (p .channels) (λ (x : Channel). x .settings) ∙ three;
       }
 
 pub apart-gathered : (h : Heads) (t : Rows) → length (h .channels) ≡ 3 → Three t → Holds (gathered h t) h t
 apart-gathered h t n w =
-    let heads = sym (three-of (headOf blank) (h .channels) n) in
+    let heads = sym (three-of (blank .head) (h .channels) n) in
     let sla = sym (three-of [] (t .sla) (w .sla)) in
     let lens = sym (three-of [] (t .lens) (w .lens)) in
     let status = sym (three-of [] (t .status) (w .status)) in
     let counts = sym (three-of [] (t .counts) (w .counts)) in
-    let settings = sym (three-of [] (t .settings) (w .settings)) in
     record {
       heads = λ i. record { channels = heads i; common = h .common };
-      rows = λ i. record { sla = sla i; lens = lens i; status = status i; counts = counts i; settings = settings i };
+      rows = λ i. record { sla = sla i; lens = lens i; status = status i; counts = counts i };
       three = refl;
     }
 
@@ -144,7 +149,7 @@ module _ (p : Part) (h : Heads) (t : Rows) (w : Holds p h t) where
   pub holds-ready : (m : List ℕ) → Whole p m → Ready h t m
   holds-ready m v =
       record {
-        heads = ap (λ (x : Heads). length (x .channels)) (w .heads) ∙ length-map (p .channels) headOf ∙ w .three;
+        heads = ap (λ (x : Heads). length (x .channels)) (w .heads) ∙ length-map (p .channels) (λ (x : Channel). x .head) ∙ w .three;
         rows = holds-rows;
         whole = subst (λ (x : Part). Whole x m) (sym holds-part) v;
       }
@@ -173,25 +178,24 @@ tells-gives f h r t n v w =
 -- ---- ONE CHANNEL ANEW: its record x, in its head and its row
 module _ (p : Part) (c : ℕ) (x : Channel) (k : Common) where
   put-holds : length (p .channels) ≡ 3
-      → Holds (oneAfter p c x k) (record { channels = set (headsOf p .channels) c (headOf x); common = k }) (withRow (rowsOf p) c x)
+      → Holds (oneAfter p c x k) (record { channels = set (headsOf p .channels) c (x .head); common = k }) (withRow (rowsOf p) c x)
   put-holds three =
       let l = p .channels in
       record {
-        heads = rw (map-set headOf l c x);
+        heads = rw (map-set (λ (y : Channel). y .head) l c x);
         rows =
             rw (
               map-set (λ (y : Channel). y .slatable) l c x,
               map-set (λ (y : Channel). y .tranconfig) l c x,
               map-set (λ (y : Channel). y .status) l c x,
               map-set (λ (y : Channel). y .bytecount) l c x,
-              map-set (λ (y : Channel). y .settings) l c x,
             );
         three = length-set l c x ∙ three;
       }
 
 module _ (p : Part) (h : Heads) (t : Rows) (w : Holds p h t) (m : List ℕ) (c : ℕ) (op : Op) (r : OneStepped) (t′ : Rows) (m′ : List ℕ) where
   -- what channel c answers in heads and rows, and in the part
-  served : Stepped
+  served : Served
   served = servedBy (chan p c) (window c m) c op
 
   same-served : servedIn (headAt h c) t m c op ≡ served
@@ -200,17 +204,17 @@ module _ (p : Part) (h : Heads) (t : Rows) (w : Holds p h t) (m : List ℕ) (c :
 
   one-bytes : OneGives (headAt h c) (h .common) t m c op r t′ m′ → m′ ≡ oneBytes p m c op
   unfolding oneBytes
-  one-bytes d = d .memory ∙ ap (λ (y : Channel). putWindow c (servedStore y (window c m) c op) m) (holds-at p h t w c)
+  one-bytes d = d .memory ∙ ap (λ (y : Channel). putWindow c (servedBy y (window c m) c op .bytes) m) (holds-at p h t w c)
 
   -- A STEP OF ONE CHANNEL in its head and its row is the part's
   pub one-gives : OneGives (headAt h c) (h .common) t m c op r t′ m′ → Gives (oneStep p m c op) (oneStored h c r) t′ × (m′ ≡ oneBytes p m c op)
   unfolding oneStep served
   one-gives d =
-      let e = d .given ∙ ap (oneOf (h .common) c op) same-served in
-      let k = commonAfter (h .common) op (served .answer) in (
+      let e = d .given ∙ ap (λ (y : Served). oneOf (h .common) c op (y .stepped)) same-served in
+      let k = commonAfter (h .common) op (served .stepped .answer) in (
         record {
           holds =
-              rw (e, d .rows, same-served, w .heads, w .rows) (put-holds p c (served .channel) (commonAfter (commonOf p) op (served .answer)) (w .three));
+              rw (e, d .rows, same-served, w .heads, w .rows) (put-holds p c (served .stepped .channel) (commonAfter (commonOf p) op (served .stepped .answer)) (w .three));
           answer = ap (λ (y : OneStepped). y .answer) e;
         },
         one-bytes d,
@@ -218,9 +222,9 @@ module _ (p : Part) (h : Heads) (t : Rows) (w : Holds p h t) (m : List ℕ) (c :
 
 -- ---- what a step over lent tables gives: the channel x is what it gave back and the tables that it left
 abbrev headedOf : Stepped → Headed
-headedOf x = record { head = headOf (x .channel); answer = x .answer }
+headedOf x = record { head = x .channel .head; answer = x .answer }
 
-module _ (x : Stepped) (r : Headed) (a b d e f : List ℕ) (q : rejoined r a b d e f ≡ x) where
+module _ (x : Stepped) (r : Headed) (a b d e : List ℕ) (q : rejoined r a b d e ≡ x) where
   pub lent-gives : (k : Common) (c : ℕ) (op : Op) → record { head = r .head; common = commonAfter k op (r .answer); answer = answerAt c (r .answer) } ≡ oneOf k c op x
   lent-gives k c op = ap (oneOf k c op) q
 
@@ -228,7 +232,7 @@ module _ (x : Stepped) (r : Headed) (a b d e f : List ℕ) (q : rejoined r a b d
   lent-headed = ap headedOf q
 
   pub lent-row : (c : ℕ) (t : Rows)
-      → record { sla = set (t .sla) c a; lens = set (t .lens) c b; status = set (t .status) c d; counts = set (t .counts) c e; settings = set (t .settings) c f }
+      → record { sla = set (t .sla) c a; lens = set (t .lens) c b; status = set (t .status) c d; counts = set (t .counts) c e }
       ≡ withRow t c (x .channel)
   lent-row c t = ap (λ (y : Stepped). withRow t c (y .channel)) q
 
@@ -255,7 +259,6 @@ module _ (t : Rows) (c : ℕ) (x : Channel) where
         getD-set-other (t .lens) c j (x .tranconfig) [] n,
         getD-set-other (t .status) c j (x .status) [] n,
         getD-set-other (t .counts) c j (x .bytecount) [] n,
-        getD-set-other (t .settings) c j (x .settings) [] n,
       )
 
 set-three : {A : Type 0} (l : List A) (a b d : A) → length l ≡ 3 → set (set (set l 0 a) 1 b) 2 d ≡ (a ∷ b ∷ d ∷ [])
@@ -269,7 +272,6 @@ all-rows t a b d w =
       set-three (t .lens) (a .tranconfig) (b .tranconfig) (d .tranconfig) (w .lens),
       set-three (t .status) (a .status) (b .status) (d .status) (w .status),
       set-three (t .counts) (a .bytecount) (b .bytecount) (d .bytecount) (w .counts),
-      set-three (t .settings) (a .settings) (b .settings) (d .settings) (w .settings),
     )
 
 -- the part's own three
@@ -297,6 +299,34 @@ module _ (h : Heads) (t : Rows) (edge : Edge) (w : partIn (gathered h t) ≡ tru
       )
       (chan-in-range (gathered h t) 2 w)
 
+-- an edge does nothing to a channel with TE 0
+edge-unmoved : (c : Channel) (edge : Edge) → c .head .regs .te ≡ false → triggered c edge ≡ on c (plain (c .head))
+unfolding triggered edgeBeat beaten if_then_else_
+edge-unmoved c edge e = rw e
+
+-- nor to a part none of whose channels has TE 1
+pub unarmed-unmoved : (h : Heads) (t : Rows) (edge : Edge) → unarmedOf h ≡ true → triggerStep (gathered h t) edge ≡ told (gathered h t) done 0 quiet
+unfolding unarmedOf triggerStep beAfter if_then_else_
+unarmed-unmoved h t edge e =
+    let a = past (headAt h 0 .regs .te) _ e in
+    let b = past (headAt h 1 .regs .te) _ (a .1) in
+    let x = edge-unmoved (channelOf h t 0) edge (a .0) in
+    let y = edge-unmoved (channelOf h t 1) edge (b .0) in
+    let z = edge-unmoved (channelOf h t 2) edge (not-true (headAt h 2 .regs .te) (b .1)) in
+    λ i. record {
+      part = record {
+        channels = x i .channel ∷ y i .channel ∷ z i .channel ∷ [];
+        be = beAfter (beAfter (beAfter (h .common .be) (x i .answer .number)) (y i .answer .number)) (z i .answer .number);
+        mask = h .common .mask;
+        key = h .common .key;
+      };
+      answer = record {
+        number = done;
+        value = 0;
+        actions = record { action = x i .answer .action } ∷ record { action = y i .answer .action } ∷ record { action = z i .answer .action } ∷ [];
+      };
+    }
+
 -- what is given back where the channels answered a, b and d
 abbrev pub edgesStored : Heads → Headed → Headed → Headed → HeadsStepped
 edgesStored h a b d = record {
@@ -309,7 +339,7 @@ edgesStored h a b d = record {
     };
   };
   answer = record {
-    number = 0;
+    number = done;
     value = 0;
     actions = record { action = a .answer .action } ∷ record { action = b .answer .action } ∷ record { action = d .answer .action } ∷ [];
   };

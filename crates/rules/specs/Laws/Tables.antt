@@ -11,6 +11,7 @@ use borrow.Author.Tests.{not-false, not-true}
 use lib.ListN.{getD, set}
 use Rattle.laws.specs.Pick.{if_then_else_}
 use Rattle.laws.specs.Cases.{left-more, left-none, pick-holds}
+use Rattle.rules.specs.Numbers.{doneStatus}
 use Rattle.rules.specs.Tables.{startOf, skippedOf, sentFrom, firstSent, markFrom, marked}
 
 -- ---- startOf
@@ -47,7 +48,7 @@ pub mark-end : (s t : List ℕ) (i n : ℕ) → marked s i n ≡ t → n ≤ i �
 unfolding markFrom
 mark-end s t i n e h = rw (left-none n i h) at e
 
-pub mark-more : (s t : List ℕ) (i n : ℕ) → marked s i n ≡ t → i < n → marked (set s i 0x02) (i + 1) n ≡ t
+pub mark-more : (s t : List ℕ) (i n : ℕ) → marked s i n ≡ t → i < n → marked (set s i doneStatus) (i + 1) n ≡ t
 unfolding markFrom
 mark-more s t i n e h = rw (left-more n i h) at e
 

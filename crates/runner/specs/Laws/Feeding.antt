@@ -17,8 +17,8 @@ use Rattle.part.specs.declared.state.Part.{Part}
 use Rattle.part.specs.declared.state.PartAnswer.{PartAnswer}
 use Rattle.part.specs.Registers.{interruptOf}
 use Rattle.part.specs.Rows.{Rows, gathered, Holds}
-use Rattle.part.specs.Step.{Whole}
 use Rattle.part.specs.Laws.Rows.{holds-part}
+use Rattle.part.specs.Facts.{Whole}
 use Rattle.script.specs.declared.reading.Line.{Line}
 use Rattle.script.specs.Answer.{Put, textIf, answerRoom, roomy, answerLine}
 use Rattle.script.specs.Grammar.{lineOf}

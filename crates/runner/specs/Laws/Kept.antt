@@ -1,5 +1,6 @@
 -- What is kept between two pieces of the input is enough: it says the same, goes on the same and ends the same.
 use Prim.Native.Nat.{ℕ, zero, suc, _+_, _<_, _≤_}
+use Rattle.part.specs.Facts.{Whole}
 use mathlib.Core.Bool.{Bool, true, false}
 use mathlib.Core.List.{List, [], _∷_, _++_}
 use mathlib.Core.Path.{_≡_, refl, _∙_, ap}
@@ -8,7 +9,6 @@ use lib.Dec.{eqb}
 use lib.ListN.{length, take, drop, length-take}
 use lib.Seq.{sets-eq, take-all, take-append-seam}
 use Rattle.laws.specs.Pick.{if_then_else_}
-use Rattle.part.specs.Step.{Whole}
 use Rattle.script.specs.Answer.{Put}
 use Rattle.script.specs.Grammar.{lineRoom}
 use Rattle.runner.specs.Text.{endedLines, restOf, lastLine, Desk, Sitting, afterOne, replyTo, afterAll, repliesTo, fed, said, lastSaid}

@@ -12,22 +12,23 @@ use Rattle.part.specs.declared.state.Part.{Part}
 use Rattle.part.specs.declared.state.PartStepped.{PartStepped}
 use Rattle.part.specs.Map.{targetOf}
 use Rattle.part.specs.Rows.{Rows, headAt, gathered, Holds, Gives, OneGives, oneStored}
-use Rattle.part.specs.Step.{oneStep, oneBytes, partServed, partStored, Whole}
+use Rattle.part.specs.Step.{oneStep, oneBytes, partServed, partStored}
 use Rattle.part.specs.Laws.Kept.{whole-kept}
 use Rattle.part.specs.Laws.Range.{whole-accepts, step-accepted, bytes-accepted}
 use Rattle.part.specs.Laws.Rows.{holds-part, one-gives}
+use Rattle.part.specs.Facts.{Whole}
 use Rattle.independent.specs.Statement.{State}
 use Rattle.script.specs.declared.reading.Line.{Line}
 use Rattle.script.specs.declared.reading.Line.the-variants.{Readable, Unreadable}
 use Rattle.runner.specs.declared.answering.Aim.{Aim}
 use Rattle.runner.specs.declared.answering.Aim.the-variants.{One, Others}
 use Rattle.runner.specs.declared.answering.Rest.{Rest}
-use Rattle.runner.specs.Run.{start, answered, afterLine}
+use Rattle.runner.specs.Run.{start, lineAnswer, afterLine}
 use Rattle.runner.specs.Performing.{aimAt, aimOf, restServed, restStored}
 
 -- ---- the part after a line with its answer, and the memory
 abbrev pub performed : Part → List ℕ → Line → PartStepped
-performed p m l = record { part = afterLine (start p m) l .part; answer = answered (start p m) l }
+performed p m l = record { part = afterLine (start p m) l .part; answer = lineAnswer (start p m) l }
 
 abbrev pub performedBytes : Part → List ℕ → Line → List ℕ
 performedBytes p m l = afterLine (start p m) l .memory

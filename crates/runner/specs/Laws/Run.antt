@@ -10,7 +10,7 @@ use Rattle.independent.specs.Laws.Apart.{part-apart}
 use Rattle.script.specs.declared.reading.Line.{Line}
 use Rattle.script.specs.declared.reading.Line.the-variants.{Readable, Unreadable}
 use Rattle.script.specs.Grammar.{lineOf}
-use Rattle.runner.specs.Run.{answered, afterLine, ownerOfLine, theScript}
+use Rattle.runner.specs.Run.{lineAnswer, afterLine, ownerOfLine, theScript}
 
 -- a line of a channel
 abbrev Own : Line → Type 0
@@ -23,7 +23,7 @@ kept : (s : State) (a : Line) → Accepted s → Own a → Accepted (afterLine s
 kept s (Readable a) g h = part-apart .kept s a g h
 kept s Unreadable g h = g
 
-unmoved : (s : State) (a b : Line) → Accepted s → Own a → Own b → Other a b → answered (afterLine s b) a ≡ answered s a
+unmoved : (s : State) (a b : Line) → Accepted s → Own a → Own b → Other a b → lineAnswer (afterLine s b) a ≡ lineAnswer s a
 unmoved s (Readable a) (Readable b) g h i ne = part-apart .unmoved s a b g h i ne
 unmoved s (Readable a) Unreadable g h i ne = absurd (omega arith)
 unmoved s Unreadable b g h i ne = absurd (omega arith)

@@ -1,4 +1,4 @@
--- A line against a form, one law for each way that the loop of `fits` ends or goes on; what stands past a line's end; what a hex digit is.
+-- A line against a form, one law for each way that the loop of `in_form` ends or goes on; what stands past a line's end; what a hex digit is.
 use mathlib.Core.Bool.{Bool, true, false}
 use mathlib.Core.List.{List}
 use mathlib.Core.Path.{_≡_, sym, _∙_}
@@ -12,24 +12,24 @@ use lib.ListN.{length, getD, drop, drop-of-length-le, List·getD-eq-default}
 use lib.Seq.{drop-cons}
 use Rattle.laws.specs.Pick.{if_then_else_}
 use Rattle.laws.specs.Cases.{both}
-use Rattle.script.specs.Grammar.{isHex, hexOf, digitAt, suiting, fitting}
+use Rattle.script.specs.Grammar.{isHex, hexOf, digitAt, suiting, inForm}
 use Rattle.script.specs.Laws.Grammar.{fit-length}
 
-pub fit-all : (f l : List ℕ) (i : ℕ) → length f ≡ length l → fitting f l ≡ fitting (drop i f) (drop i l) → length f ≤ i → true ≡ fitting f l
-unfolding fitting
+pub fit-all : (f l : List ℕ) (i : ℕ) → length f ≡ length l → inForm f l ≡ inForm (drop i f) (drop i l) → length f ≤ i → true ≡ inForm f l
+unfolding inForm
 fit-all f l i e p h =
     let k : length l ≤ i = omega arith in
     sym (p ∙ rw (drop-of-length-le f h, drop-of-length-le l k))
 
-module _ (f l : List ℕ) (i : ℕ) (r b : Bool) (e : length f ≡ length l) (p : r ≡ fitting (drop i f) (drop i l)) (h : i < length f)
+module _ (f l : List ℕ) (i : ℕ) (r b : Bool) (e : length f ≡ length l) (p : r ≡ inForm (drop i f) (drop i l)) (h : i < length f)
     (q : b ≡ suiting (getD f i 0) (getD l i 0)) where
-  opened : r ≡ (if b then fitting (drop (i + 1) f) (drop (i + 1) l) else false)
-  unfolding fitting
+  opened : r ≡ (if b then inForm (drop (i + 1) f) (drop (i + 1) l) else false)
+  unfolding inForm
   opened =
       let k : i < length l = omega arith in
       p ∙ rw (drop-cons f i 0 h, drop-cons l i 0 k, ← q, add-one)
 
-  pub fit-more : b ≡ true → r ≡ fitting (drop (i + 1) f) (drop (i + 1) l)
+  pub fit-more : b ≡ true → r ≡ inForm (drop (i + 1) f) (drop (i + 1) l)
   unfolding if_then_else_
   fit-more t = rw t at opened
 

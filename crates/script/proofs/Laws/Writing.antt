@@ -15,7 +15,7 @@ use Rattle.laws.specs.Pick.{if_then_else_}
 use Rattle.laws.specs.Sets.{sets-append}
 use Rattle.laws.specs.Cases.{flag-true, flag-false, false-not-true}
 use Rattle.sequence.specs.declared.wires.Action.{Action}
-use Rattle.script.specs.Answer.{Put, textIf, digitsOf, busyOf, orOf, actionOf, joined, answerRoom, roomy}
+use Rattle.script.specs.Answer.{Put, textIf, digitsOf, busyOf, orOf, actionOf, byCommas, answerRoom, roomy}
 
 -- nothing is put
 put-none : (l : List ℕ) (at : ℕ) → Put l at [] at l
@@ -171,7 +171,7 @@ unfolding if_then_else_
 or-none true b e = absurd (omega (arith, false-not-true (sym e)))
 or-none false b e = (refl, e)
 
-pub put-dash : (l : List ℕ) (at : ℕ) (a b c : Action) → orOf (orOf (busyOf a) (busyOf b)) (busyOf c) ≡ false → Put l at (joined a b c) (at + 1) (set l at 45)
+pub put-dash : (l : List ℕ) (at : ℕ) (a b c : Action) → orOf (orOf (busyOf a) (busyOf b)) (busyOf c) ≡ false → Put l at (byCommas a b c) (at + 1) (set l at 45)
 unfolding actionOf textIf if_then_else_
 put-dash l at a b c e =
     let two = or-none (orOf (busyOf a) (busyOf b)) (busyOf c) e in

@@ -10,11 +10,11 @@ use lib.ListN.{length, take}
 use lib.Seq.{take-all, length-take-le}
 use Rattle.laws.specs.Pick.{if_then_else_}
 use Rattle.laws.specs.Cases.{pick-holds}
-use Rattle.script.specs.Grammar.{lineRoom, suiting, fitting, faultLine, clockLine, eventLine, edgeLine, lineOf}
+use Rattle.script.specs.Grammar.{lineRoom, suiting, inForm, faultLine, clockLine, eventLine, edgeLine, lineOf}
 use Rattle.script.specs.declared.reading.Line.the-variants.{Unreadable}
 
-pub fit-length : (f l : List ℕ) → (length f ≡ length l → ⊥) → false ≡ fitting f l
-unfolding fitting if_then_else_
+pub fit-length : (f l : List ℕ) → (length f ≡ length l → ⊥) → false ≡ inForm f l
+unfolding inForm if_then_else_
 fit-length [] [] h = absurd (h refl)
 fit-length [] (b ∷ l) h = refl
 fit-length (a ∷ f) [] h = refl
@@ -22,7 +22,7 @@ fit-length (a ∷ f) (b ∷ l) h =
     pick-holds (λ (r : Bool). false ≡ r) (suiting a b) (λ _. fit-length f l (λ e. h (ap suc e))) (λ _. refl)
 
 module _ (l : List ℕ) (h : lineRoom ≤ length l) where
-  unfit : (f : List ℕ) → ltb (length f) lineRoom ≡ true → fitting f l ≡ false
+  unfit : (f : List ℕ) → ltb (length f) lineRoom ≡ true → inForm f l ≡ false
   unfit f t = let k = ltb-true (length f) lineRoom t in sym (fit-length f l (λ e. omega arith))
 
   -- every form is shorter

@@ -6,7 +6,7 @@ use mathlib.Core.Path.{_≡_, refl}
 use Rattle.laws.specs.Pick.{if_then_else_}
 use Rattle.channel.specs.declared.step.Op.{Op}
 use Rattle.channel.specs.declared.step.Op.the-variants.{Write, Read, Wire}
-use Rattle.channel.specs.Step.{servedBy, servedStore}
+use Rattle.channel.specs.Step.{servedBy}
 use Rattle.channel.specs.Laws.Kept.{serves-in-range, served-length}
 use Rattle.part.specs.Step.{keyKept, oneStep, oneBytes}
 use Rattle.works.specs.State.{State}
@@ -15,12 +15,12 @@ use Rattle.works.specs.Work.{Work, workAfter, workGives, replyBy}
 abbrev pub opWork : ℕ → Op → Work
 opWork c op = record {
   lent = [];
-  after = λ o. record { channel = servedBy (o .channel) (o .bytes) c op .channel; bytes = servedStore (o .channel) (o .bytes) c op };
-  gives = λ o. record { answer = servedBy (o .channel) (o .bytes) c op .answer; out = [] };
+  after = λ o. record { channel = servedBy (o .channel) (o .bytes) c op .stepped .channel; bytes = servedBy (o .channel) (o .bytes) c op .bytes };
+  gives = λ o. record { answer = servedBy (o .channel) (o .bytes) c op .stepped .answer; out = [] };
   keepsKey = keyKept op true;
   keeps = λ o h. record {
-    ranged = serves-in-range (o .channel) (o .bytes) c op (h .ranged);
-    whole = rw (served-length (o .channel) (o .bytes) c (h .whole) op) (h .whole);
+    ranged = serves-in-range (o .channel) (o .bytes) c op h;
+    whole = rw (served-length (o .channel) (o .bytes) c op h) (h .whole);
   };
 }
 

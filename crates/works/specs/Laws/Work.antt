@@ -6,12 +6,14 @@ use lib.ListN.{length}
 use lib.Seq.{set-comm, getD-set-other}
 use Rattle.laws.specs.Pick.{if_then_else_}
 use Rattle.laws.specs.Cases.{with, both}
+use Rattle.rules.specs.Numbers.{bufferSize}
+use Rattle.rules.specs.Laws.Interrupt.{be-swap}
 use Rattle.part.specs.State.{blank}
-use Rattle.part.specs.Step.{partIn, Whole}
+use Rattle.part.specs.Step.{partIn}
 use Rattle.part.specs.Laws.Memory as memory
 use Rattle.part.specs.Laws.Range.{accepts-whole, whole-accepts}
 use Rattle.part.specs.Laws.Kept.{set-in, chan-accepted}
-use Rattle.part.specs.Laws.Apart.{be-swap}
+use Rattle.part.specs.Facts.{Whole}
 use Rattle.works.specs.State.{State, Accepted}
 use Rattle.works.specs.Work.{Own, Sound, Work, ownOf, ownPut, workAfter, workGives}
 
@@ -31,7 +33,7 @@ module _ (s : State) (g : Accepted s) where
   good : Whole (s .part) (s .memory)
   good = accepts-whole (s .part) (s .memory) g
 
-  fits : (c : ℕ) → c < 3 → 4352 * c + 4352 ≤ length (s .memory)
+  fits : (c : ℕ) → c < 3 → bufferSize * c + bufferSize ≤ length (s .memory)
   fits c h = memory.fits c (s .memory) h (good .whole)
 
   sound : (c : ℕ) (w : Work) → c < 3 → Sound (w .after (ownOf s c))

@@ -7,16 +7,14 @@ use Rattle.part.proofs.rows.edge_at.Tie as tie
 
 returns : tie.Need-returns
 returns c =
-    let a = c .before .before .before .before .before .before .args in
+    let a = c .before .before .before .before .before .args in
     let e = c .trigger-lent .ensures in
-    record { given = lent-headed _ _ _ _ _ _ _ e; rows = lent-row _ _ _ _ _ _ _ e (a .c) (rowsIn (a .sla) (a .lens) (a .status) (a .counts) (a .settings)) }
+    record { given = lent-headed _ _ _ _ _ _ e; rows = lent-row _ _ _ _ _ _ e (a .c) (rowsIn (a .sla) (a .lens) (a .status) (a .counts)) }
 
 pub edge-at-spec : {M : Type 1} → statement M
 edge-at-spec =
     tie.close
     (tie.spec
-    (λ c. search needs)
-    (λ c. search needs)
     (λ c. search needs)
     (λ c. search needs)
     (λ c. search needs)

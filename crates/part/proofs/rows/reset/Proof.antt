@@ -13,10 +13,10 @@ returns : tie.Need-returns
 unfolding wiped
 returns c =
     let spread = c .before in
-    let wipe = spread .before .before .before .before .before .before .before .before .before in
+    let wipe = spread .before .before .before .before .before .before .before .before in
     let start = wipe .before .before .before in (
       record {
-        holds = rw (c .tell .ensures .0, ← spread .before .before .before .before .before .before .new .ensures) (spread .spread .ensures);
+        holds = rw (c .tell .ensures .0, ← spread .before .before .before .before .before .new .ensures) (spread .spread .ensures);
         answer = ap (λ (x : PartStepped). x .answer) (c .tell .ensures .1 .1 (rowsOf freshPart));
       },
       wipe .wipe .ensures ∙ ap (λ (n : ℕ). replicate n 0) (start .pre .1),

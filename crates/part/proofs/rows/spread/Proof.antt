@@ -11,15 +11,15 @@ use Rattle.part.proofs.rows.spread.Tie as tie
 returns : tie.Need-returns
 returns c =
     let third = c .before in
-    let second = third .before .before .before .before .before .before .before in
-    let first = second .before .before .before .before .before .before .before in
-    let start = first .before .before .before .before .before .before .before .before in
+    let second = third .before .before .before .before .before .before in
+    let first = second .before .before .before .before .before .before in
+    let start = first .before .before .before .before .before .before .before in
     let a = start .args in
     let p = a .part in
     let three : length (p .channels) ≡ 3 = simp length-map at (start .good .0 .1 .1 .0 .1 .0 .1) in
     let two = second .put-row2 .ensures ∙ ap (λ (t : Rows). withRow t 1 (chan p 1)) (first .put-row .ensures) in
     let rows = third .put-row3 .ensures ∙ ap (λ (t : Rows). withRow t 2 (chan p 2)) two in
-    spread-holds p (c .heads .result) (rowsIn (a .sla) (a .lens) (a .status) (a .counts) (a .settings)) _ three (start .pre) (c .heads .ensures) rows
+    spread-holds p (c .heads .result) (rowsIn (a .sla) (a .lens) (a .status) (a .counts)) _ three (start .pre) (c .heads .ensures) rows
 
 pub spread-spec : {M : Type 1} → statement M
 spread-spec =

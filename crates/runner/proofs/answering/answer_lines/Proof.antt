@@ -19,20 +19,20 @@ use Rattle.runner.proofs.answering.answer_lines.Statement.{statement}
 use Rattle.runner.proofs.answering.answer_lines.Tie as tie
 
 abbrev Inv-loop : tie.InvT-loop
-Inv-loop block mem₀ out₀ sla₀ lens₀ status₀ counts₀ settings₀ heads₀ step₀ from₀ at₀ end₀ mem out sla lens status counts settings heads step from at end =
+Inv-loop block mem₀ out₀ sla₀ lens₀ status₀ counts₀ heads₀ step₀ from₀ at₀ end₀ mem out sla lens status counts heads step from at end =
     (length out ≡ length out₀)
-    × Going block (record { part = gathered heads₀ (asRows sla₀ lens₀ status₀ counts₀ settings₀); step = step₀; from = from₀; at = at₀ }) mem₀ out₀
-    heads (asRows sla lens status counts settings) mem out step from at end
+    × Going block (record { part = gathered heads₀ (asRows sla₀ lens₀ status₀ counts₀); step = step₀; from = from₀; at = at₀ }) mem₀ out₀
+    heads (asRows sla lens status counts) mem out step from at end
 
 abbrev μ-loop : tie.MeasureT-loop
-μ-loop block mem₀ out₀ sla₀ lens₀ status₀ counts₀ settings₀ heads₀ step₀ from₀ at₀ end₀ mem out sla lens status counts settings heads step from at end = length block - from
+μ-loop block mem₀ out₀ sla₀ lens₀ status₀ counts₀ heads₀ step₀ from₀ at₀ end₀ mem out sla lens status counts heads step from at end = length block - from
 
 -- ---- the places, each from one behind it
 abbrev takenOf : tie.At-loop Inv-loop μ-loop → tie.After-spread Inv-loop μ-loop
 takenOf turn = turn .before .before
 
 abbrev startOf : tie.At-loop Inv-loop μ-loop → tie.Start Inv-loop μ-loop
-startOf turn = takenOf turn .before .before .before .before .before .before .before .before .before .before
+startOf turn = takenOf turn .before .before .before .before .before .before .before .before .before
 
 abbrev turnOf : tie.Then1 Inv-loop μ-loop → tie.At-loop Inv-loop μ-loop
 turnOf test = test .before .before
@@ -47,7 +47,7 @@ aimFor arm = arm .before .before .before
 
 -- the rows, and that they hold the part
 abbrev rowsAt : tie.At-loop Inv-loop μ-loop → Rows
-rowsAt turn = asRows (turn .loop .sla) (turn .loop .lens) (turn .loop .status) (turn .loop .counts) (turn .loop .settings)
+rowsAt turn = asRows (turn .loop .sla) (turn .loop .lens) (turn .loop .status) (turn .loop .counts)
 
 -- there are three heads
 three : (turn : tie.At-loop Inv-loop μ-loop) → length (turn .loop .heads .channels) ≡ 3
@@ -63,16 +63,16 @@ below arm = rw (arm .a .given .1) at (aimFor arm .aim-of .ensures .1)
 
 -- ---- before the loop
 spread-requires : tie.Need-spread-requires Inv-loop μ-loop
-spread-requires c κs = record { sla = refl; lens = refl; status = refl; counts = refl; settings = refl }
+spread-requires c κs = record { sla = refl; lens = refl; status = refl; counts = refl }
 
 line-end-requires : tie.Need-line-end-requires Inv-loop μ-loop
 line-end-requires c κs =
-    c .before .before .before .before .before .before .before .before .before .before .pre .1
+    c .before .before .before .before .before .before .before .before .before .pre .1
 
 loop-holds : tie.Need-loop-holds Inv-loop μ-loop
 loop-holds c =
     let taken = c .before in
-    let start = taken .before .before .before .before .before .before .before .before .before .before in
+    let start = taken .before .before .before .before .before .before .before .before .before in
     let part = start .args .s .part in
     let held = holds-part part (taken .spread .result) _ (taken .spread .ensures) in (
       refl,
@@ -116,7 +116,7 @@ mul-h c =
 
 mul-g : tie.Need-mul-g Inv-loop μ-loop
 mul-g c =
-    let b = below (c .before .before .before .before .before .before .before .before .before .before .before .before .before) in
+    let b = below (c .before .before .before .before .before .before .before .before .before .before .before .before) in
     search needs
 
 element-copy-out-h : tie.Need-element-copy-out-h Inv-loop μ-loop
@@ -128,21 +128,21 @@ element-copy-out-h c =
 
 element-set-from-g : tie.Need-element-set-from-g Inv-loop μ-loop
 element-set-from-g c =
-    let arm = c .before .before .before .before .before .before .before .before .before .before .before .before .before in
+    let arm = c .before .before .before .before .before .before .before .before .before .before .before .before in
     let b = below arm in
     let n = three (turnOf (testOf (aimFor arm))) in
     search needs
 
 one-requires : tie.Need-one-requires Inv-loop μ-loop
 one-requires c κs =
-    let arm = c .before .before .before .before .before .before .before .before .before in
+    let arm = c .before .before .before .before .before .before .before .before in
     let turn = turnOf (testOf (aimFor arm)) in
     let g = turn .loop .inv .1 in
     holds-one-ready (g .part) (turn .loop .heads) (rowsAt turn) (g .holds) _ (g .whole) _ (below arm)
 
 perform-requires : tie.Need-perform-requires Inv-loop μ-loop
 perform-requires c κs =
-    let turn = c .before .before .before .before .before .before .before .before .before .before .before .before .before .before .before in
+    let turn = c .before .before .before .before .before .before .before .before .before .before .before .before .before .before in
     let g = turn .loop .inv .1 in
     holds-ready (g .part) (turn .loop .heads) (rowsAt turn) (g .holds) _ (g .whole)
 
@@ -178,15 +178,15 @@ loop-again c =
     let l = line .read-line .result in
     let is = aim .aim-of .ensures .0 in
     let j = join .match in
-    let rows = asRows (j .sla) (j .lens) (j .status) (j .counts) (j .settings) in
+    let rows = asRows (j .sla) (j .lens) (j .status) (j .counts) in
     let done =
     ⊎-elim {C = Performs (v .part) (turn .loop .mem) l (record { heads = j .heads; answer = j .answer }) rows (j .mem)}
     (λ w.
-    rw (w .17, w .18, w .19, w .20, w .21, w .22, w .23, w .24)
-    (line-one (v .part) (turn .loop .mem) (v .whole) (turn .loop .heads) (rowsAt turn) (v .holds) l _ is _ _ (w .11 .result) _ _ (w .1 .given .1) (w .11 .ensures)))
+    rw (w .16, w .17, w .18, w .19, w .20, w .21, w .22)
+    (line-one (v .part) (turn .loop .mem) (v .whole) (turn .loop .heads) (rowsAt turn) (v .holds) l _ is _ _ (w .10 .result) _ _ (w .1 .given .1) (w .10 .ensures)))
     (λ w.
-    rw (w .14, w .15, w .16, w .17, w .18, w .19, w .20, w .21)
-    (line-rest (v .part) (turn .loop .mem) (v .whole) (turn .loop .heads) (rowsAt turn) (v .holds) l _ is _ (w .9 .result) _ _ (w .1 .given .1) (w .9 .ensures)))
+    rw (w .13, w .14, w .15, w .16, w .17, w .18, w .19)
+    (line-rest (v .part) (turn .loop .mem) (v .whole) (turn .loop .heads) (rowsAt turn) (v .holds) l _ is _ (w .8 .result) _ _ (w .1 .given .1) (w .8 .ensures)))
     (j .came) in (
       put-length _ _ _ _ _ (text .write-answer .ensures .0) ∙ turn .loop .inv .0,
       going-on block _ _ _ (turn .loop .heads) (rowsAt turn) (turn .loop .mem) (turn .loop .out) (turn .loop .step) (turn .loop .from) (turn .loop .at)
@@ -198,12 +198,12 @@ loop-again c =
 -- ---- after the loop
 same-length : tie.Need-same-length Inv-loop μ-loop
 same-length c =
-    let turn = c .before .before .before .before .before .before .before .before in
+    let turn = c .before .before .before .before .before .before .before in
     turn .loop .inv .1 .whole .whole ∙ sym (startOf turn .pre .0 .whole)
 
 returns : tie.Need-returns Inv-loop μ-loop
 returns c =
-    let test = c .before .before .before .before .before .before in
+    let test = c .before .before .before .before .before in
     let turn = test .before .before in
     let taken = takenOf turn in
     let a = startOf turn .args in

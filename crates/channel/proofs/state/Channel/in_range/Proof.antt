@@ -7,22 +7,16 @@ use mathlib.Core.Path.{_∙_, sym}
 use Rattle.channel.proofs.state.Channel.in_range.Statement.{statement}
 use Rattle.channel.proofs.state.Channel.in_range.Tie as tie
 
-frame-in-requires : tie.Need-frame-in-requires
-frame-in-requires c κs =
-    let test = c .before .before .before .before .before .before .before in
-    registers-count _ _ _ (sym (test .before .registers-in .ensures) ∙ test .if2 .taken)
-
 pub in-range-spec : {M : Type 1} → statement M
 unfolding inRange
 in-range-spec =
     tie.close
     (tie.spec
+    (λ c. λ κs. search needs)
     (λ c. search needs)
-    (λ c. search needs)
-    (λ c. search needs)
-    (λ c. search needs)
-    (λ c. search needs)
-    frame-in-requires
+    (λ c. λ κs. search needs)
+    (λ c. λ κs. search needs)
+    (λ c. λ κs. registers-count _ _ _ (sym (c .before .before .before .before .before .before .before .registers-in .ensures) ∙ c .before .before .before .before .before .before .if2 .taken))
     (λ c. search cases depth 12)
     (λ c. search cases depth 12)
     (λ c. search cases depth 12)

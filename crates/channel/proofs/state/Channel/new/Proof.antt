@@ -8,6 +8,4 @@ new-spec =
     tie.close
     (tie.spec
     (λ c. λ κs. search needs)
-    (λ c. λ κs. search needs)
-    (λ c. λ κs. search needs)
-    (λ c. rw (c .join .ensures, c .before .before .new .ensures, c .before .fresh-settings .ensures)))
+    (λ c. rw (c .new .ensures)))

@@ -1,44 +1,41 @@
 -- `channel::state::Channel::step` meets its contract.
-use Rattle.channel.proofs.Laws.Access.{guarded-no, guarded-yes, kept-no, kept-yes}
-use Rattle.channel.proofs.Laws.Step.{accepts}
-use Rattle.channel.specs.Step.{bytesAfter, stepOf}
+use Rattle.channel.proofs.Laws.Access.{guarded-no, guarded-yes}
+use Rattle.channel.proofs.Laws.Step.{accepts, steps}
+use Rattle.channel.specs.Step.{rangeNumber, outcomeOf}
 use borrow.Author.Needs.{needs}
+use mathlib.Core.Path.{_≡_, _∙_, ap}
 use Rattle.channel.proofs.state.Channel.step.Statement.{statement}
 use Rattle.channel.proofs.state.Channel.step.Tie as tie
 
-range-number-requires : tie.Need-range-number-requires
-range-number-requires c κs = search needs
+refused : tie.Need-returns
+unfolding outcomeOf
+refused c =
+    let number = c .before .before in
+    let e = number .range-number .ensures ∙ ap (rangeNumber _) (number .before .in-range .ensures) in
+    steps _ _ _ (guarded-no _ _ _ _ _ _ e (c .before .if1 .taken) (rw (c .answer .ensures)))
 
-answer-requires : tie.Need-answer-requires
-answer-requires c κs = search needs
+serve-needs : tie.Need-serve-requires
+serve-needs c κs =
+    let number = c .before .before in
+    accepts _ _ _ (number .range-number .ensures ∙ ap (rangeNumber _) (number .before .in-range .ensures)) (c .before .if1 .left)
 
-returns : tie.Need-returns
-unfolding stepOf bytesAfter
-returns c =
-    let test = c .before in
-    let number = test .before in (
-      guarded-no _ _ _ _ _ (number .range-number .ensures) (test .if1 .taken) (c .answer .ensures),
-      kept-no _ _ _ _ (number .range-number .ensures) (test .if1 .taken),
-    )
-
-serve-requires : tie.Need-serve-requires
-serve-requires c κs =
-    let test = c .before in
+served : tie.Need-returns-2
+unfolding outcomeOf
+served c =
+    let done = c .before .before in
+    let test = done .before .before in
     let number = test .before in
-    accepts _ _ _ (number .range-number .ensures) (test .if1 .left)
-
-same-length : tie.Need-same-length
-same-length c = search needs
-
-returns-2 : tie.Need-returns-2
-unfolding stepOf bytesAfter
-returns-2 c =
-    let served = c .before .before in
-    let test = served .before .before in
-    let number = test .before in (
-      guarded-yes _ _ _ _ _ (number .range-number .ensures) (test .if1 .left) (served .serve .ensures .0),
-      kept-yes _ _ _ _ _ (number .range-number .ensures) (test .if1 .left) (served .serve .ensures .1),
-    )
+    let e = number .range-number .ensures ∙ ap (rangeNumber _) (number .before .in-range .ensures) in
+    steps _ _ _ (guarded-yes _ _ _ _ _ _ e (test .if1 .left) (done .serve .ensures))
 
 pub step-spec : {M : Type 1} → statement M
-step-spec = tie.close (tie.spec range-number-requires answer-requires returns serve-requires same-length returns-2)
+step-spec =
+    tie.close
+    (tie.spec
+    (λ c. λ κs. search needs)
+    (λ c. λ κs. search needs)
+    (λ c. λ κs. search needs)
+    refused
+    serve-needs
+    (λ c. search needs)
+    served)

@@ -1,14 +1,13 @@
 -- `channel::state::Head::ack_address` meets its contract.
-use Rattle.channel.specs.Wires.{ackAddress, clocked}
+use Rattle.channel.specs.Wires.{ackAddress}
 use Rattle.laws.specs.Cases.{pick-false, pick-true}
 use borrow.Author.Needs.{needs}
-use lib.ListN.{set}
 use mathlib.Core.Path.{_∙_, sym}
 use Rattle.channel.proofs.state.Head.ack_address.Statement.{statement}
 use Rattle.channel.proofs.state.Head.ack_address.Tie as tie
 
 pub ack-address-spec : {M : Type 1} → statement M
-unfolding ackAddress clocked
+unfolding ackAddress
 ack-address-spec =
     tie.close
     (tie.spec
@@ -16,5 +15,5 @@ ack-address-spec =
     (λ c. λ κs. search needs)
     (λ c. λ κs. search needs)
     (λ c. λ κs. search needs)
-    (λ c. λ k set. pick-true _ _ _ _ (sym (c .before .before .reads .ensures) ∙ c .before .if1 .taken) (rw (c .clock .ensures)))
-    (λ c. λ k set. pick-false _ _ _ _ (sym (c .before .before .before .reads .ensures) ∙ c .before .before .if1 .left) (c .ack-write .ensures k set)))
+    (λ c. pick-true _ _ _ _ (sym (c .before .before .reads .ensures) ∙ c .before .if1 .taken) (rw (c .clock .ensures)))
+    (λ c. pick-false _ _ _ _ (sym (c .before .before .before .before .reads .ensures) ∙ c .before .before .before .if1 .left) (c .ack-write .ensures)))

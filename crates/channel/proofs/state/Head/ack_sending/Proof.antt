@@ -1,31 +1,15 @@
 -- `channel::state::Head::ack_sending` meets its contract.
-use Rattle.channel.specs.Wires.{ackSending, countedOne}
+use Rattle.channel.proofs.Laws.Wires.{walks}
 use borrow.Author.Needs.{needs}
 use Rattle.channel.proofs.state.Head.ack_sending.Statement.{statement}
 use Rattle.channel.proofs.state.Head.ack_sending.Tie as tie
 
-send-on-requires : tie.Need-send-on-requires
-send-on-requires c κs =
-    let x = c .before .before .before in
-    let len = x .before .before .before .before in
-    let start = len .before .before .before in
-    (start .pre .0 .running, rw (← len .byte .ensures .0) (x .next-byte .ensures .1), start .pre .1)
-
-returns : tie.Need-returns
-unfolding ackSending countedOne
-returns c set =
-    let counted = c .before .before in
-    let x = counted .before .before in
-    let k = x .before .before in
-    let len = k .before .before in
-    rw (
-      c .send-on .ensures _ set,
-      counted .count-one .ensures,
-      x .next-byte .ensures .0,
-      x .before .halts .ensures,
-      k .byte2 .ensures .0,
-      len .byte .ensures .0,
-    )
+send-on-needs : tie.Need-send-on-requires
+send-on-needs c κs =
+    let next = c .before .before .before .before in
+    let had = next .before .before .before .before in
+    let start = had .before .before .before in
+    (start .pre .0 .running, rw (← had .byte .ensures .0) (next .next-byte .ensures .1), start .pre .1)
 
 pub ack-sending-spec : {M : Type 1} → statement M
 ack-sending-spec =
@@ -40,5 +24,5 @@ ack-sending-spec =
     (λ c. λ κs. search needs)
     (λ c. λ κs. search needs)
     (λ c. λ κs. search needs)
-    send-on-requires
-    returns)
+    send-on-needs
+    (λ c. search walks depth 12))

@@ -1,21 +1,14 @@
 -- `channel::state::Head::ack_write` meets its contract.
 use borrow.Author.Needs.{needs}
-use lib.ListN.{set}
 use Rattle.channel.proofs.state.Head.ack_write.Statement.{statement}
 use Rattle.channel.proofs.state.Head.ack_write.Tie as tie
 
-send-on-requires : tie.Need-send-on-requires
-send-on-requires c κs =
-    let x = c .before in
-    let len = x .before .before in
+send-on-needs : tie.Need-send-on-requires
+send-on-needs c κs =
+    let next = c .before .before in
+    let len = next .before .before in
     let start = len .before .before .before in
-    (start .pre .0, rw (len .byte .ensures .0) at (x .next-byte .ensures .1), start .pre .1)
-
-returns : tie.Need-returns
-returns c k set =
-    let x = c .before .before in
-    let len = x .before .before in
-    rw (c .send-on .ensures k set, x .next-byte .ensures .0, x .before .halts .ensures, len .byte .ensures .0)
+    (start .pre .0, rw (len .byte .ensures .0) at (next .next-byte .ensures .1), start .pre .1)
 
 pub ack-write-spec : {M : Type 1} → statement M
 ack-write-spec =
@@ -26,5 +19,5 @@ ack-write-spec =
     (λ c. λ κs. search needs)
     (λ c. λ κs. search needs)
     (λ c. λ κs. search needs)
-    send-on-requires
-    returns)
+    send-on-needs
+    (λ c. rw (c .send-on .ensures, c .before .before .before .next-byte .ensures .0, c .before .before .before .before .halts .ensures, c .before .before .before .before .before .byte .ensures .0)))

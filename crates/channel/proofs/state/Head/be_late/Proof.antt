@@ -5,9 +5,10 @@ use Rattle.channel.proofs.state.Head.be_late.Tie as tie
 
 returns : tie.Need-returns
 returns c =
-    let f = c .before .before .before in
-    let femsk = f .before in
-    rw (c .with-walk .ensures, c .before .late-walk .ensures, c .before .before .with-flags .ensures, f .late-flags .ensures, femsk .bit .ensures)
+    let state = c .before in
+    let walk = state .before in
+    let flags = walk .before in
+    rw (c .answer .ensures, state .with-state .ensures, walk .late-walk .ensures, flags .late-flags .ensures, flags .before .bit .ensures)
 
 pub be-late-spec : {M : Type 1} → statement M
 be-late-spec =

@@ -15,7 +15,6 @@ beat-spec =
     (λ c. λ κs. search needs)
     (λ c. search needs)
     (λ c. λ κs. search needs)
-    (λ c. λ κs. search needs)
     (λ c. rw (c .before .enum-told .given .1, c .answer .ensures))
     (λ c. rw (c .before .before .before .enum-told2 .given .1) (c .begin .ensures))
-    (λ c. rw (c .before .before .enum-told3 .given .1, c .answer2 .ensures, c .before .be-late .ensures)))
+    (λ c. rw (c .before .enum-told3 .given .1, c .be-late .ensures)))

@@ -19,4 +19,4 @@ begin-by-spec =
     (λ c. λ κs. search needs)
     (λ c. rw (c .before .before .enum-told .given .1, c .answer .ensures, c .before .to-idle .ensures))
     (λ c. rw (c .before .before .enum-told2 .given .1, c .answer2 .ensures, c .before .to-idle2 .ensures))
-    (λ c. rw (c .before .before .before .enum-told3 .given .1) (c .start-clear .ensures)))
+    (λ c. rw (c .before .before .before .enum-told3 .given .1) (c .start .ensures)))

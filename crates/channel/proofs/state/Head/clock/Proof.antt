@@ -1,9 +1,11 @@
 -- `channel::state::Head::clock` meets its contract.
+use Rattle.channel.specs.Head.{clocked}
 use borrow.Author.Needs.{needs}
 use Rattle.channel.proofs.state.Head.clock.Statement.{statement}
 use Rattle.channel.proofs.state.Head.clock.Tie as tie
 
 pub clock-spec : {M : Type 1} → statement M
+unfolding clocked
 clock-spec =
     tie.close
     (tie.spec

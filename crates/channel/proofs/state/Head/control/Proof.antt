@@ -7,23 +7,26 @@ use Rattle.channel.proofs.state.Head.control.Tie as tie
 returns : tie.Need-returns
 unfolding controlled
 returns c =
-    let h = c .before .before .before in
-    let a = h .before .before in
-    let te = a .before in
-    let over = te .before .before in
+    let pointers = c .before .before .before in
+    let modes = pointers .before in
+    let ask = modes .before in
+    let kept = ask .before in
+    let active = kept .before in
+    let over = active .before in
     let place = over .before in
     rw (
       c .ask .ensures,
-      h .set-pointers .ensures,
-      h .before .set-modes .ensures,
-      a .ask-of .ensures,
-      te .kept-if .ensures,
-      te .before .active .ensures,
+      pointers .set-pointers .ensures,
+      modes .set-modes .ensures,
+      ask .ask-of .ensures,
+      kept .kept-if .ensures,
+      active .active .ensures,
       over .overrun .ensures,
       place .data-place .ensures,
     )
 
 pub control-spec : {M : Type 1} → statement M
+unfolding controlled
 control-spec =
     tie.close
     (tie.spec

@@ -11,4 +11,4 @@ end-by-spec =
     (λ c. λ κs. search needs)
     (λ c. λ κs. search needs)
     (λ c. λ κs. search needs)
-    (λ c. rw (c .with-walk .ensures, c .before .end-walk .ensures, c .before .before .with-flags .ensures, c .before .before .before .end-flags .ensures)))
+    (λ c. rw (c .answer .ensures, c .before .with-state .ensures, c .before .before .end-walk .ensures, c .before .before .before .end-flags .ensures)))

@@ -1,9 +1,11 @@
 -- `channel::state::Head::end_frame` meets its contract.
+use Rattle.channel.specs.Head.{frameEnded}
 use borrow.Author.Needs.{needs}
 use Rattle.channel.proofs.state.Head.end_frame.Statement.{statement}
 use Rattle.channel.proofs.state.Head.end_frame.Tie as tie
 
 pub end-frame-spec : {M : Type 1} → statement M
+unfolding frameEnded
 end-frame-spec =
     tie.close
     (tie.spec

@@ -1,9 +1,11 @@
 -- `channel::state::Head::fail` meets its contract.
+use Rattle.channel.specs.Head.{failed}
 use borrow.Author.Needs.{needs}
 use Rattle.channel.proofs.state.Head.fail.Statement.{statement}
 use Rattle.channel.proofs.state.Head.fail.Tie as tie
 
 pub fail-spec : {M : Type 1} → statement M
+unfolding failed
 fail-spec =
     tie.close
     (tie.spec

@@ -10,4 +10,5 @@ fault-spec =
     (λ c. λ κs. search needs)
     (λ c. λ κs. search needs)
     (λ c. λ κs. search needs)
-    (λ c. rw (c .to-idle .ensures, c .before .with-flags .ensures, c .before .before .fault-flags .ensures)))
+    (λ c. λ κs. search needs)
+    (λ c. rw (c .answer .ensures, c .before .with-state .ensures, c .before .before .idle-walk .ensures, c .before .before .before .fault-flags .ensures)))

@@ -1,7 +1,6 @@
 -- `channel::state::Head::finish` meets its contract.
 use Rattle.channel.specs.Wires.{finished}
 use borrow.Author.Needs.{needs}
-use lib.ListN.{set}
 use Rattle.channel.proofs.state.Head.finish.Statement.{statement}
 use Rattle.channel.proofs.state.Head.finish.Tie as tie
 
@@ -12,4 +11,4 @@ finish-spec =
     (tie.spec
     (λ c. search needs)
     (λ c. λ κs. search needs)
-    (λ c. λ k set. c .onward .ensures k set))
+    (λ c. c .onward .ensures))

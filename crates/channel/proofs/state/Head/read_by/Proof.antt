@@ -31,7 +31,7 @@ read-by-spec =
     (λ c. search needs)
     (λ c. λ κs. search reads)
     (λ c. search needs)
-    (λ c. λ κs. search reads)
+    (λ c. λ κs. search needs)
     (λ c. search needs)
     (λ c. λ κs. search needs)
     (λ c. rw (c .before .before .reg .given .1, c .read-status .ensures))

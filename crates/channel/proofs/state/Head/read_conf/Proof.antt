@@ -8,7 +8,6 @@ read-conf-spec =
     tie.close
     (tie.spec
     (λ c. search needs)
-    (λ c. search needs)
     (λ c. λ κs. search needs)
     (λ c. λ κs. search needs)
-    (λ c. rw (c .reply .ensures, c .before .conf-at .ensures)))
+    (λ c. rw (c .reply .ensures, c .before .next-conf .ensures)))

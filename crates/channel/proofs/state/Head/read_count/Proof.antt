@@ -8,7 +8,6 @@ read-count-spec =
     tie.close
     (tie.spec
     (λ c. search needs)
-    (λ c. search needs)
     (λ c. λ κs. search needs)
     (λ c. λ κs. search needs)
-    (λ c. rw (c .reply .ensures, c .before .count-at .ensures)))
+    (λ c. rw (c .reply .ensures, c .before .next-count .ensures)))

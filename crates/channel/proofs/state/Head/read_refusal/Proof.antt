@@ -31,7 +31,7 @@ read-refusal-spec =
     (λ c. rw (c .enum-told4 .given .1))
     (λ c. rw (c .before .enum-told5 .given .1) (c .past-refusal .ensures))
     (λ c. rw (c .before .enum-told6 .given .1) (c .past-refusal2 .ensures))
-    (λ c. rw (c .before .enum-told7 .given .1) (c .place-refusal .ensures))
+    (λ c. rw (c .before .enum-told7 .given .1) (c .spot-refusal-at .ensures))
     (λ c. rw (c .enum-told8 .given .1))
     (λ c. rw (c .enum-told9 .given .1))
     (λ c. rw (c .before .enum-told10 .given .1) (c .past-refusal3 .ensures))

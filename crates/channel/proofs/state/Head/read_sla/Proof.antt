@@ -8,7 +8,6 @@ read-sla-spec =
     tie.close
     (tie.spec
     (λ c. search needs)
-    (λ c. search needs)
     (λ c. λ κs. search needs)
     (λ c. λ κs. search needs)
-    (λ c. rw (c .reply .ensures, c .before .sla-at .ensures)))
+    (λ c. rw (c .reply .ensures, c .before .next-sla .ensures)))

@@ -1,12 +1,11 @@
 -- `channel::state::Head::receive_on` meets its contract.
-use Rattle.channel.specs.Wires.{receiveOn, stopped}
+use Rattle.channel.specs.Wires.{receiveOn}
 use borrow.Author.Needs.{needs}
-use lib.ListN.{set}
 use Rattle.channel.proofs.state.Head.receive_on.Statement.{statement}
 use Rattle.channel.proofs.state.Head.receive_on.Tie as tie
 
 pub receive-on-spec : {M : Type 1} → statement M
-unfolding receiveOn stopped
+unfolding receiveOn
 receive-on-spec =
     tie.close
     (tie.spec
@@ -16,6 +15,6 @@ receive-on-spec =
     (λ c. λ κs. search needs)
     (λ c. search needs)
     (λ c. λ κs. search needs)
-    (λ c. λ k set. rw (c .before .enum-told .given .1, c .stop .ensures))
-    (λ c. λ k set. rw (c .before .enum-told2 .given .1, c .act .ensures))
-    (λ c. λ k set. rw (c .before .before .enum-told3 .given .1) (c .finish .ensures k set)))
+    (λ c. rw (c .before .enum-told .given .1, c .stop .ensures))
+    (λ c. rw (c .before .enum-told2 .given .1, c .act .ensures))
+    (λ c. rw (c .before .before .before .enum-told3 .given .1) (c .finish .ensures)))

@@ -10,17 +10,14 @@ use Rattle.channel.proofs.state.Head.reset.Tie as tie
 returns : tie.Need-returns
 unfolding zeros
 returns c =
-    let wiped = c .before .before .before .before .before .before .before .before .before in
-    let start = wiped .before .before .before in (
-      rw (c .answer .ensures, c .before .new .ensures, c .before .before .fresh-settings .ensures),
-      wiped .wipe .ensures ∙ ap (λ (n : ℕ). replicate n 0) (start .pre),
-    )
+    let made = c .before in
+    let wiped = made .before .before .before .before .before .before .before in
+    let start = wiped .before .before .before in rw (c .answer .ensures, made .new .ensures, wiped .wipe .ensures, start .pre)
 
 pub reset-spec : {M : Type 1} → statement M
 reset-spec =
     tie.close
     (tie.spec
-    (λ c. λ κs. search needs)
     (λ c. λ κs. search needs)
     (λ c. λ κs. search needs)
     (λ c. λ κs. search needs)

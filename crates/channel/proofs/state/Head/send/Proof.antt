@@ -1,10 +1,11 @@
 -- `channel::state::Head::send` meets its contract.
+use Rattle.channel.specs.Wires.{sentTo}
 use borrow.Author.Needs.{needs}
-use mathlib.Core.Path.{refl}
 use Rattle.channel.proofs.state.Head.send.Statement.{statement}
 use Rattle.channel.proofs.state.Head.send.Tie as tie
 
 pub send-spec : {M : Type 1} → statement M
+unfolding sentTo
 send-spec =
     tie.close
     (tie.spec
@@ -12,4 +13,4 @@ send-spec =
     (λ c. search needs)
     (λ c. λ κs. search needs)
     (λ c. λ κs. search needs)
-    (λ c. (rw (c .act .ensures, c .before .to-phase .ensures), refl)))
+    (λ c. rw (c .act .ensures, c .before .to-phase .ensures)))

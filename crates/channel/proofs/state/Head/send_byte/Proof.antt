@@ -1,9 +1,11 @@
 -- `channel::state::Head::send_byte` meets its contract.
+use Rattle.channel.specs.Wires.{byteSent}
 use borrow.Author.Needs.{needs}
 use Rattle.channel.proofs.state.Head.send_byte.Statement.{statement}
 use Rattle.channel.proofs.state.Head.send_byte.Tie as tie
 
 pub send-byte-spec : {M : Type 1} → statement M
+unfolding byteSent
 send-byte-spec =
     tie.close
     (tie.spec

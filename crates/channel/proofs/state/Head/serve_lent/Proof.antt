@@ -1,31 +1,27 @@
 -- `channel::state::Head::serve_lent` meets its contract.
-use Rattle.channel.specs.Step.{servedBy, servedStore}
+use Rattle.channel.specs.Step.{servedBy}
 use borrow.Author.Needs.{needs}
-use mathlib.Core.Path.{refl}
 use Rattle.channel.proofs.state.Head.serve_lent.Statement.{statement}
 use Rattle.channel.proofs.state.Head.serve_lent.Tie as tie
 
-returns : tie.Need-returns
-unfolding servedBy servedStore
-returns c =
+wrote : tie.Need-returns
+unfolding servedBy
+wrote c =
     let done = c .before .before in
-    let place = done .before .before .before .before .before .before .before in
-    let told = place .before .before in
-    rw (told .op .given .1, ← place .place-of .ensures .0) (done .write-at .ensures)
+    let place = done .before .before .before .before .before .before in
+    rw (place .before .before .op .given .1, ← place .place-of .ensures .0) (done .write .ensures)
 
-returns-2 : tie.Need-returns-2
-unfolding servedBy servedStore
-returns-2 c =
-    let place = c .before .before .before .before .before .before .before in
-    let told = place .before .before in
-    rw (told .op2 .given .1, ← place .place-of2 .ensures .0) (c .read-at .ensures, refl)
+read : tie.Need-returns-2
+unfolding servedBy
+read c =
+    let place = c .before .before .before .before .before .before in
+    rw (place .before .before .op2 .given .1, ← place .place-of2 .ensures .0) (c .read .ensures)
 
-returns-3 : tie.Need-returns-3
-unfolding servedBy servedStore
-returns-3 c =
+happened : tie.Need-returns-3
+unfolding servedBy
+happened c =
     let done = c .before .before in
-    let told = done .before .before .before .before .before .before .before .before in
-    rw (told .op3 .given .1) (done .event-at .ensures)
+    rw (done .before .before .before .before .before .before .before .op3 .given .1) (done .event-at .ensures)
 
 pub serve-lent-spec : {M : Type 1} → statement M
 serve-lent-spec =
@@ -40,8 +36,8 @@ serve-lent-spec =
     (λ c. search needs)
     (λ c. λ κs. search needs)
     (λ c. search needs)
-    returns
+    wrote
     (λ c. search needs)
-    returns-2
+    read
     (λ c. search needs)
-    returns-3)
+    happened)

@@ -1,24 +1,19 @@
 -- `channel::state::Head::start` meets its contract.
-use Rattle.channel.specs.Wires.{passed, started}
+use Rattle.channel.specs.Wires.{cleared, passed, started}
 use borrow.Author.Needs.{needs}
 use Rattle.channel.proofs.state.Head.start.Statement.{statement}
 use Rattle.channel.proofs.state.Head.start.Tie as tie
 
 returns : tie.Need-returns
-unfolding started passed
-returns c k =
-    let marked = c .before .before in
-    let m = marked .before .before in
-    let to = m .before in
-    rw (
-      c .start-by .ensures _ k,
-      marked .mark .ensures,
-      m .next-move .ensures .0,
-      to .first-sent .ensures .0,
-      to .before .byte .ensures .0,
-    )
+unfolding started cleared passed
+returns c =
+    let marked = c .before .before .before in
+    let move = marked .before .before in
+    let first = move .before in
+    rw (c .start-by .ensures, marked .mark .ensures, move .next-move .ensures .0, first .first-sent .ensures .0, first .before .byte .ensures .0)
 
 pub start-spec : {M : Type 1} → statement M
+unfolding started cleared passed
 start-spec =
     tie.close
     (tie.spec

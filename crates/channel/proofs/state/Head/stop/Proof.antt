@@ -1,9 +1,11 @@
 -- `channel::state::Head::stop` meets its contract.
+use Rattle.channel.specs.Head.{stopped}
 use borrow.Author.Needs.{needs}
 use Rattle.channel.proofs.state.Head.stop.Statement.{statement}
 use Rattle.channel.proofs.state.Head.stop.Tie as tie
 
 pub stop-spec : {M : Type 1} → statement M
+unfolding stopped
 stop-spec =
     tie.close
     (tie.spec

@@ -11,5 +11,5 @@ trigger-lent-spec =
     tie.close
     (tie.spec
     (λ c. λ κs. search needs)
-    (λ c. λ κs. range-count _ (c .before .before .before .before .before .before .before .pre))
-    (λ c. rw (← c .before .before .before .before .before .before .edge-beat .ensures) (c .beat .ensures)))
+    (λ c. λ κs. range-count _ (c .before .before .before .before .before .before .pre))
+    (λ c. rw (← c .before .before .before .before .before .edge-beat .ensures) (c .beat .ensures)))

@@ -9,7 +9,6 @@ write-conf-spec =
     tie.close
     (tie.spec
     (λ c. search needs)
-    (λ c. search needs)
     (λ c. λ κs. search needs)
     (λ c. λ κs. search needs)
-    (λ c. (rw (c .answer .ensures, c .before .conf-at .ensures), refl)))
+    (λ c. (rw (c .answer .ensures, c .before .next-conf .ensures), refl)))

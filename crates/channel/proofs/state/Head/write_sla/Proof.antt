@@ -9,7 +9,6 @@ write-sla-spec =
     tie.close
     (tie.spec
     (λ c. search needs)
-    (λ c. search needs)
     (λ c. λ κs. search needs)
     (λ c. λ κs. search needs)
-    (λ c. (rw (c .answer .ensures, c .before .sla-at .ensures), refl)))
+    (λ c. (rw (c .answer .ensures, c .before .next-sla .ensures), refl)))

@@ -24,23 +24,23 @@ element-copy-out-h c =
 
 one-requires : tie.Need-one-requires
 one-requires c κs =
-    let arm = c .before .before .before .before .before .before .before .before .before in
+    let arm = c .before .before .before .before .before .before .before .before in
     let target = arm .before .before in
     let start = target .before .before in
     let a = start .args in
-    let rows = rowsIn (a .sla) (a .lens) (a .status) (a .counts) (a .settings) in
+    let rows = rowsIn (a .sla) (a .lens) (a .status) (a .counts) in
     let below : arm .t .given .0 .1 .0 < 3 = rw (arm .t .given .1) at (target .target-of .ensures .1) in
     holds-one-ready (gathered (a .self) rows) (a .self) rows (ready-holds (a .self) rows _ (start .pre)) _ (start .pre .whole) _ below
 
 mul-g : tie.Need-mul-g
 mul-g c =
-    let arm = c .before .before .before .before .before .before .before .before .before .before .before .before .before in
+    let arm = c .before .before .before .before .before .before .before .before .before .before .before .before in
     let below : arm .t .given .0 .1 .0 < 3 = rw (arm .t .given .1) at (arm .before .before .target-of .ensures .1) in
     search needs
 
 element-set-from-g : tie.Need-element-set-from-g
 element-set-from-g c =
-    let arm = c .before .before .before .before .before .before .before .before .before .before .before .before .before in
+    let arm = c .before .before .before .before .before .before .before .before .before .before .before .before in
     let target = arm .before .before in
     let heads = target .before .before .pre .heads in
     let below : arm .t .given .0 .1 .0 < 3 = rw (arm .t .given .1) at (target .target-of .ensures .1) in
@@ -50,11 +50,11 @@ element-set-from-g c =
 returns : tie.Need-returns
 returns c =
     let one = c .before .before .before .before .before in
-    let arm = one .before .before .before .before .before .before .before .before .before .before in
+    let arm = one .before .before .before .before .before .before .before .before .before in
     let target = arm .before .before in
     let start = target .before .before in
     let a = start .args in
-    let rows = rowsIn (a .sla) (a .lens) (a .status) (a .counts) (a .settings) in
+    let rows = rowsIn (a .sla) (a .lens) (a .status) (a .counts) in
     let p = gathered (a .self) rows in
     let holds = ready-holds (a .self) rows _ (start .pre) in
     let is = sym (target .target-of .ensures .0) ∙ arm .t .given .1 in
@@ -64,11 +64,11 @@ returns c =
 returns-2 : tie.Need-returns-2
 returns-2 c =
     let all = c .before .before in
-    let arm = all .before .before .before .before .before .before .before .before in
+    let arm = all .before .before .before .before .before .before .before in
     let target = arm .before .before in
     let start = target .before .before in
     let a = start .args in
-    let rows = rowsIn (a .sla) (a .lens) (a .status) (a .counts) (a .settings) in
+    let rows = rowsIn (a .sla) (a .lens) (a .status) (a .counts) in
     let is = sym (target .target-of .ensures .0) ∙ arm .t2 .given .1 in
     step-all (gathered (a .self) rows) _ (start .pre .whole) (a .s) _ _ _ _ is (all .all .ensures)
 

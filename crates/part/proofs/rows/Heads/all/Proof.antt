@@ -13,12 +13,12 @@ use Rattle.part.proofs.rows.Heads.all.Tie as tie
 
 trigger-requires : tie.Need-trigger-requires
 trigger-requires c κs =
-    let start = c .before .before .before .before .before .before .before .before .before in
-    (start .pre .rows, start .pre .whole .ranged)
+    let start = c .before .before .before .before .before .before .before .before in
+    (start .pre .heads, start .pre .rows, start .pre .whole .ranged)
 
 reset-requires : tie.Need-reset-requires
 reset-requires c κs =
-    let start = c .before .before .before .before .before .before .before .before .before in
+    let start = c .before .before .before .before .before .before .before .before in
     (start .pre .rows, start .pre .whole .whole)
 
 -- CtrlWrite
@@ -26,7 +26,7 @@ returns : tie.Need-returns
 unfolding allServed allStored
 returns c =
     let put = c .before .before in
-    rw (put .before .before .before .before .before .before .before .before .t .given .1) (put .put-ctrl .ensures)
+    rw (put .before .before .before .before .before .before .before .t .given .1) (put .put-ctrl .ensures)
 
 -- CtrlRead
 returns-2 : tie.Need-returns-2
@@ -36,20 +36,20 @@ returns-2 c =
     let start = arm .before .before .before in
     let a = start .args in
     let f : Part → PartStepped = λ p. ctrlRead p (arm .t2 .given .0 .0) in
-    let rows = rowsIn (a .sla) (a .lens) (a .status) (a .counts) (a .settings) in
+    let rows = rowsIn (a .sla) (a .lens) (a .status) (a .counts) in
     rw (arm .t2 .given .1) (tells-gives f (a .self) _ rows (start .pre .heads) (start .pre .rows) (c .read-ctrl .ensures), refl)
 
 -- AllTrigger
 returns-3 : tie.Need-returns-3
 unfolding allServed allStored
-returns-3 c = rw (c .before .before .before .before .before .before .before .t3 .given .1) (c .trigger .ensures, refl)
+returns-3 c = rw (c .before .before .before .before .before .before .t3 .given .1) (c .trigger .ensures, refl)
 
 -- AllReset
 returns-4 : tie.Need-returns-4
 unfolding allServed allStored
 returns-4 c =
     let reset = c .before .before in
-    rw (reset .before .before .before .before .before .before .before .enum-told .given .1) (reset .reset .ensures)
+    rw (reset .before .before .before .before .before .before .enum-told .given .1) (reset .reset .ensures)
 
 -- Beyond
 returns-5 : tie.Need-returns-5
@@ -58,7 +58,7 @@ returns-5 c =
     let start = c .before .before .before .before in
     let a = start .args in
     let f : Part → PartStepped = λ p. refusedPart p 1 in
-    let rows = rowsIn (a .sla) (a .lens) (a .status) (a .counts) (a .settings) in
+    let rows = rowsIn (a .sla) (a .lens) (a .status) (a .counts) in
     rw (c .before .enum-told2 .given .1) (tells-gives f (a .self) _ rows (start .pre .heads) (start .pre .rows) (c .tell .ensures .1), refl)
 
 pub all-spec : {M : Type 1} → statement M

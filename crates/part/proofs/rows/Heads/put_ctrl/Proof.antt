@@ -17,7 +17,7 @@ returns : tie.Need-returns
 unfolding ctrlPut ctrlStore if_then_else_
 returns c =
     let reset = c .before .before in
-    let test = reset .before .before .before .before .before .before .before in
+    let test = reset .before .before .before .before .before .before in
     let preset = test .before .before in
     let a = preset .before .before .args in
     let t : resetsOf (ctrlpresetOf (a .reg)) (a .v) (a .self .common .key) ≡ true =
@@ -35,7 +35,7 @@ returns-2 c =
     rw (sym (preset .is-ctrlpreset .ensures)) (sym (test .before .resets .ensures) ∙ test .if1 .left) in
     let u = rw (c .before .with-key .ensures, c .before .before .key-after .ensures, preset .is-ctrlpreset .ensures) at (c .write-ctrl .ensures) in
     let f : Part → PartStepped = λ p. ctrlWritten (withKey p (keyAfter (ctrlpresetOf (a .reg)) (a .v))) (a .reg) (a .v) in
-    let rows = rowsIn (a .sla) (a .lens) (a .status) (a .counts) (a .settings) in
+    let rows = rowsIn (a .sla) (a .lens) (a .status) (a .counts) in
     rw t (tells-gives f (a .self) _ rows (start .pre .heads) (start .pre .rows) u, refl)
 
 pub put-ctrl-spec : {M : Type 1} → statement M

@@ -1,62 +1,30 @@
--- `part::rows::Heads::trigger` meets its contract: a channel's row is not touched by the others' edges.
-use native.Mathlib.Omega.{arith}
+-- `part::rows::Heads::trigger` meets its contract: where no channel has TE 1, all is left.
+use mathlib.Core.Path.{_≡_, sym, _∙_}
 use borrow.Author.Needs.{needs}
-use Rattle.part.specs.Rows.{rowsIn, gathered}
-use Rattle.part.specs.Laws.Range.{chan-in-range}
-use Rattle.part.specs.Laws.Rows.{edges-give, second-in-range, third-in-range}
+use Rattle.part.specs.Laws.Rows.{tells-gives, unarmed-unmoved}
+use Rattle.rules.specs.Numbers.{done}
+use Rattle.part.specs.declared.state.Part.{Part}
+use Rattle.part.specs.State.{told, quiet}
+use Rattle.part.specs.Rows.{rowsIn}
 use Rattle.part.proofs.rows.Heads.trigger.Statement.{statement}
 use Rattle.part.proofs.rows.Heads.trigger.Tie as tie
 
-edge-at-requires : tie.Need-edge-at-requires
-edge-at-requires c κs =
-    let start = c .before .before .before .before .before .before in
+unmoved : tie.Need-returns
+unmoved c =
+    let test = c .before in
+    let asked = test .before in
+    let start = asked .before in
     let a = start .args in
-    let t = rowsIn (a .sla) (a .lens) (a .status) (a .counts) (a .settings) in
-    (omega arith, chan-in-range (gathered (a .t1) t) 0 (start .pre .1))
-
-edge-at-requires-2 : tie.Need-edge-at-requires-2
-edge-at-requires-2 c κs =
-    let first = c .before .before .before .before .before .before in
-    let start = first .before .before .before .before .before .before .before in
-    let a = start .args in
-    let t = rowsIn (a .sla) (a .lens) (a .status) (a .counts) (a .settings) in
-    (omega arith, second-in-range (a .t1) t (a .edge) (start .pre .1) (first .edge-at .result) _ (first .edge-at .ensures))
-
-edge-at-requires-3 : tie.Need-edge-at-requires-3
-edge-at-requires-3 c κs =
-    let second = c .before .before .before .before .before .before in
-    let first = second .before .before .before .before .before .before .before in
-    let start = first .before .before .before .before .before .before .before in
-    let a = start .args in
-    let t = rowsIn (a .sla) (a .lens) (a .status) (a .counts) (a .settings) in (
-      omega arith,
-      third-in-range (a .t1) t (a .edge) (start .pre .1) (first .edge-at .result) (second .edge-at2 .result) _ _ (first .edge-at .ensures) (second .edge-at2 .ensures),
-    )
-
-returns : tie.Need-returns
-returns c =
-    let third = c .before .before .before .before .before .before .before in
-    let second = third .before .before .before .before .before .before .before in
-    let first = second .before .before .before .before .before .before .before in
-    let start = first .before .before .before .before .before .before .before in
-    let a = start .args in
-    let t = rowsIn (a .sla) (a .lens) (a .status) (a .counts) (a .settings) in
-    rw (c .three-acts .ensures, c .before .be-after3 .ensures, c .before .before .be-after2 .ensures, c .before .before .before .be-after .ensures)
-    (edges-give (a .t1) t (a .edge) (start .pre .0) (first .edge-at .result) (second .edge-at2 .result) (third .edge-at3 .result) _ _ _
-    (first .edge-at .ensures) (second .edge-at2 .ensures) (third .edge-at3 .ensures))
+    let t = rowsIn (a .sla) (a .lens) (a .status) (a .counts) in
+    rw (unarmed-unmoved (a .self) t (a .edge) (sym (asked .unarmed .ensures) ∙ test .if1 .taken))
+    (tells-gives (λ (p : Part). told p done 0 quiet) (a .self) (c .tell .result) t (start .pre .0) (start .pre .1) (c .tell .ensures .1))
 
 pub trigger-spec : {M : Type 1} → statement M
 trigger-spec =
     tie.close
     (tie.spec
-    (λ c. search needs)
-    edge-at-requires
-    (λ c. search needs)
-    edge-at-requires-2
-    (λ c. search needs)
-    edge-at-requires-3
     (λ c κs. search needs)
     (λ c κs. search needs)
+    unmoved
     (λ c κs. search needs)
-    (λ c κs. search needs)
-    returns)
+    (λ c. c .trigger-each .ensures))

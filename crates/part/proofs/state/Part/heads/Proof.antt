@@ -3,7 +3,7 @@ use mathlib.Core.List.{map}
 use mathlib.Core.Path.{_≡_, ap}
 use lib.ListN.{length, length-map}
 use borrow.Author.Needs.{needs}
-use Rattle.channel.specs.Head.{headOf}
+use Rattle.channel.specs.declared.state.Channel.{Channel}
 use Rattle.part.specs.State.{blank}
 use Rattle.part.specs.Laws.Rows.{three-of}
 use Rattle.part.proofs.state.Part.heads.Statement.{statement}
@@ -14,7 +14,7 @@ returns c =
     let start = c .before .before .before .before .before .before .before in
     let l = start .args .self .channels in
     let three : length l ≡ 3 = simp length-map at (start .good .0 .1 .1 .0 .1 .0 .1) in
-    rw (c .head3 .ensures, c .before .head2 .ensures, c .before .before .head .ensures, ← ap (map headOf) (three-of blank l three))
+    rw (← ap (map (λ (x : Channel). x .head)) (three-of blank l three))
 
 pub heads-spec : {M : Type 1} → statement M
 heads-spec =
@@ -23,7 +23,4 @@ heads-spec =
     (λ c. search needs)
     (λ c. search needs)
     (λ c. search needs)
-    (λ c κs. search needs)
-    (λ c κs. search needs)
-    (λ c κs. search needs)
     returns)

@@ -1,0 +1,14 @@
+-- `rules::access::find_place` meets its contract.
+use Rattle.laws.specs.Cases.{cases}
+use Rattle.rules.specs.Access.{spotOf}
+use borrow.Author.Needs.{needs}
+use Rattle.rules.proofs.access.find_place.Statement.{statement}
+use Rattle.rules.proofs.access.find_place.Tie as tie
+
+pub find-place-spec : {M : Type 1} → statement M
+unfolding spotOf
+find-place-spec =
+    tie.close
+    (tie.spec
+    (λ c. (search cases depth 12, search needs))
+    (λ c. (search cases depth 12, search needs)))
