@@ -23,7 +23,7 @@ use Rattle.channel.specs.declared.state.Settings.{Settings}
 use Rattle.channel.specs.declared.state.Head.{Head}
 use Rattle.channel.specs.declared.state.Channel.{Channel}
 use Rattle.channel.specs.declared.state.Stepped.{Stepped}
-use Rattle.channel.specs.State.{Served, fresh, freshHead, zeros, on, plain, refused, replied, keeping, guarded, withHead, withSla, withConf, withSettings, withFlags, withPtrs, withKey}
+use Rattle.channel.specs.State.{Served, fresh, freshHead, zeros, on, plain, refused, replied, leaving, guarded, withHead, withSla, withConf, withSettings, withFlags, withPtrs, withKey}
 use Rattle.channel.specs.Head.{endedBy, waits, stoTaken, seqTaken, slaNext, confNext, dataTo, dataNext, countNext, maskTo, placeTo, modeTo}
 use Rattle.channel.specs.Wires.{begun}
 
@@ -87,7 +87,7 @@ readBy c m (Setting n) = on c (replied (c .head) (settingOf (c .head .settings) 
 readBy c m Preset = on c (plain (c .head))
 
 unfoldable pub readOf : Channel → List ℕ → Register → Served
-readOf c m reg = guarded (readRefusal (c .head .ptrs) reg) c m (keeping m (readBy c m reg))
+readOf c m reg = guarded (readRefusal (c .head .ptrs) reg) c m (leaving m (readBy c m reg))
 
 -- ---- a write to CONTROL
 
@@ -156,18 +156,18 @@ offset h lens v = dataTo (placeTo h (h .regs .transel) v) (startOf lens (h .regs
 
 -- a table access moves that table's pointer by one; DATA stores the byte at its pointer
 unfoldable pub writtenBy : Channel → List ℕ → Register → ℕ → Served
-writtenBy c m (Status n) v = keeping m (on c (plain (c .head)))
-writtenBy c m Control v = keeping m (controlled c (commandOf v))
-writtenBy c m Chstatus v = keeping m (on c (plain (c .head)))
-writtenBy c m Intmsk v = keeping m (on c (plain (maskTo (c .head) (maskKept v))))
-writtenBy c m Slatable v = keeping m (on (withSla c (set (c .slatable) (c .head .ptrs .sla) v)) (plain (slaNext (c .head))))
-writtenBy c m Tranconfig v = keeping m (on (withConf c (set (c .tranconfig) (c .head .ptrs .conf) v)) (plain (confNext (c .head))))
-writtenBy c m Data v = keeping (set m (c .head .ptrs .buf) v) (on c (plain (dataNext (c .head))))
-writtenBy c m Transel v = keeping m (on c (plain (selected (c .head) (c .tranconfig) v)))
-writtenBy c m Tranofs v = keeping m (on c (plain (offset (c .head) (c .tranconfig) v)))
-writtenBy c m Bytecount v = keeping m (on c (plain (c .head)))
-writtenBy c m (Setting n) v = keeping m (on c (plain (withSettings (c .head) (settingSet (c .head .settings) n v))))
-writtenBy c m Preset v = keeping m (on c (plain (c .head)))
+writtenBy c m (Status n) v = leaving m (on c (plain (c .head)))
+writtenBy c m Control v = leaving m (controlled c (commandOf v))
+writtenBy c m Chstatus v = leaving m (on c (plain (c .head)))
+writtenBy c m Intmsk v = leaving m (on c (plain (maskTo (c .head) (maskKept v))))
+writtenBy c m Slatable v = leaving m (on (withSla c (set (c .slatable) (c .head .ptrs .sla) v)) (plain (slaNext (c .head))))
+writtenBy c m Tranconfig v = leaving m (on (withConf c (set (c .tranconfig) (c .head .ptrs .conf) v)) (plain (confNext (c .head))))
+writtenBy c m Data v = leaving (set m (c .head .ptrs .buf) v) (on c (plain (dataNext (c .head))))
+writtenBy c m Transel v = leaving m (on c (plain (selected (c .head) (c .tranconfig) v)))
+writtenBy c m Tranofs v = leaving m (on c (plain (offset (c .head) (c .tranconfig) v)))
+writtenBy c m Bytecount v = leaving m (on c (plain (c .head)))
+writtenBy c m (Setting n) v = leaving m (on c (plain (withSettings (c .head) (settingSet (c .head .settings) n v))))
+writtenBy c m Preset v = leaving m (on c (plain (c .head)))
 
 unfoldable pub writeOf : Channel → List ℕ → Register → ℕ → Served
 writeOf c m reg v = guarded (refusalOf (c .head) (c .tranconfig) reg v) c m (writtenBy c m reg v)
@@ -179,4 +179,4 @@ keyed c reg v = withHead c (withKey (c .head) (keyAfter (presetOf reg) v))
 
 unfoldable pub putOf : Channel → List ℕ → Register → ℕ → Served
 putOf c m reg v =
-    if resetsOf (presetOf reg) v (c .head .key) then keeping zeros (on fresh (plain freshHead)) else writeOf (keyed c reg v) m reg v
+    if resetsOf (presetOf reg) v (c .head .key) then leaving zeros (on fresh (plain freshHead)) else writeOf (keyed c reg v) m reg v

@@ -10,7 +10,7 @@ use Rattle.channel.specs.declared.state.Channel.{Channel}
 use Rattle.channel.specs.declared.state.Stepped.{Stepped}
 use Rattle.channel.specs.declared.state.Head.{Head}
 use Rattle.channel.specs.declared.state.Headed.{Headed}
-use Rattle.channel.specs.State.{Served, keeping}
+use Rattle.channel.specs.State.{Served, leaving}
 
 -- the channel of a head and these tables
 abbrev pub joined : Head → List ℕ → List ℕ → List ℕ → List ℕ → Channel
@@ -40,4 +40,4 @@ left r sla lens status counts = rejoined r (now (sla .exit)) (now (lens .exit)) 
 
 -- with the bytes that it leaves
 abbrev pub leaves : Headed → Lent → Lent → Lent → Lent → Lent → Served
-leaves r sla lens status counts mem = keeping (now (mem .exit)) (left r sla lens status counts)
+leaves r sla lens status counts mem = leaving (now (mem .exit)) (left r sla lens status counts)

@@ -108,13 +108,13 @@ pub record Served : Type 0 where
   pub stepped : Stepped
   pub bytes : List ℕ
 
--- no byte is changed
-abbrev pub keeping : List ℕ → Stepped → Served
-keeping m s = record { stepped = s; bytes = m }
+-- a step that leaves these bytes: those before, where none is changed
+abbrev pub leaving : List ℕ → Stepped → Served
+leaving m s = record { stepped = s; bytes = m }
 
 -- refused by a number that is not 0, and otherwise done
 unfoldable pub guarded : ℕ → Channel → List ℕ → Served → Served
-guarded n c m d = if eqb n done then d else keeping m (on c (refused (c .head) n))
+guarded n c m d = if eqb n done then d else leaving m (on c (refused (c .head) n))
 
 -- ---- the count, entry 0 of TRANCONFIG
 abbrev pub countOf : Channel → ℕ

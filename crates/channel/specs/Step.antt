@@ -17,7 +17,7 @@ use Rattle.channel.specs.declared.state.Channel.{Channel}
 use Rattle.channel.specs.declared.state.Stepped.{Stepped}
 use Rattle.channel.specs.declared.step.Op.{Op}
 use Rattle.channel.specs.declared.step.Op.the-variants.{Write, Read, Wire}
-use Rattle.channel.specs.State.{Served, on, refused, keeping, guarded}
+use Rattle.channel.specs.State.{Served, on, refused, leaving, guarded}
 use Rattle.channel.specs.Head.{framecntOf}
 use Rattle.channel.specs.Range.{inRange}
 use Rattle.channel.specs.Access.{putOf, readOf}
@@ -26,11 +26,11 @@ use Rattle.channel.specs.Wires.{turned}
 -- no. 1: an address that isn't this channel's; it leaves the key
 unfoldable pub writeAt : Channel → List ℕ → Place → ℕ → Served
 writeAt c m (Here reg) v = putOf c m reg v
-writeAt c m Elsewhere v = keeping m (on c (refused (c .head) nowhere))
+writeAt c m Elsewhere v = leaving m (on c (refused (c .head) nowhere))
 
 unfoldable pub readAt : Channel → List ℕ → Place → Served
 readAt c m (Here reg) = readOf c m reg
-readAt c m Elsewhere = keeping m (on c (refused (c .head) nowhere))
+readAt c m Elsewhere = leaving m (on c (refused (c .head) nowhere))
 
 -- what event e comes to
 abbrev pub turnAt : Head → Event → Turn
@@ -38,7 +38,7 @@ turnAt h e = turnOf (h .walk .phase) (h .regs .te) (framecntOf h) e
 
 -- no. 1: channel above 2
 unfoldable pub eventAt : Channel → List ℕ → ℕ → Event → Served
-eventAt c m number e = if ltb 2 number then keeping m (on c (refused (c .head) nowhere)) else turned c m (turnAt (c .head) e)
+eventAt c m number e = if ltb 2 number then leaving m (on c (refused (c .head) nowhere)) else turned c m (turnAt (c .head) e)
 
 -- a step of the channel with this number, whose record is in range
 unfoldable pub servedBy : Channel → List ℕ → ℕ → Op → Served

@@ -25,7 +25,7 @@ use Rattle.rules.specs.Tables.{startOf, fitting, readsOf, firstSent, marked}
 use Rattle.sequence.specs.Wires.{beginningOf, reachOf, moveOf, nextOf, stopBy, againBy, maskedOf, edgeBeat}
 use Rattle.channel.specs.declared.state.Channel.{Channel}
 use Rattle.channel.specs.declared.state.Stepped.{Stepped}
-use Rattle.channel.specs.State.{Served, on, plain, refused, acted, keeping, countOf, withHead, withStatus, withCounts}
+use Rattle.channel.specs.State.{Served, on, plain, refused, acted, leaving, countOf, withHead, withStatus, withCounts}
 use Rattle.channel.specs.Head.{haltOf, inPhase, idled, frameEnded, stopped, clocked, noted, failed, lateBy, faulted}
 
 -- ---- words for transaction n
@@ -151,16 +151,16 @@ nacked c n v =
 
 -- ---- an event in the phase that it meets; no. 7 where it is not awaited. NACK: STATUS 04h in Address, 08h in Sending
 unfoldable pub turned : Channel → List ℕ → Turn → Served
-turned c m Unawaited = keeping m (on c (refused (c .head) notAwaited))
-turned c m (AckAddress n) = keeping m (ackAddress c m n)
-turned c m (AckSending n) = keeping m (ackSending c m n)
+turned c m Unawaited = leaving m (on c (refused (c .head) notAwaited))
+turned c m (AckAddress n) = leaving m (ackAddress c m n)
+turned c m (AckSending n) = leaving m (ackSending c m n)
 turned c m (Receive n b) = received c m n b
-turned c m (NackAddress n) = keeping m (nacked c n addressRefused)
-turned c m (NackSending n) = keeping m (nacked c n dataRefused)
-turned c m Begin = keeping m (begun c)
-turned c m Late = keeping m (on c (plain (lateBy (c .head))))
-turned c m End = keeping m (on c (plain (frameEnded (c .head))))
-turned c m (Faulty f) = keeping m (on c (plain (faulted (c .head) f)))
+turned c m (NackAddress n) = leaving m (nacked c n addressRefused)
+turned c m (NackSending n) = leaving m (nacked c n dataRefused)
+turned c m Begin = leaving m (begun c)
+turned c m Late = leaving m (on c (plain (lateBy (c .head))))
+turned c m End = leaving m (on c (plain (frameEnded (c .head))))
+turned c m (Faulty f) = leaving m (on c (plain (faulted (c .head) f)))
 
 -- ---- a trigger edge's effect on one channel; a frame that doesn't fit shows as no. 5, which its caller turns into BE
 unfoldable pub beaten : Channel → Beat → Stepped

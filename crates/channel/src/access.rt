@@ -8,7 +8,7 @@ ghost use Rattle.rules.specs.Numbers.{bufferSize};
 ghost use Rattle.rules.specs.Access.{placeRefusal, spotOf, spotRefusal};
 ghost use Rattle.sequence.specs.Walk.{noFlags};
 ghost use Rattle.rules.specs.Facts.{Known, KnownPlace};
-ghost use Rattle.channel.specs.State.{fresh, freshHead, zeros, keeping, on, plain, replied, withFlags, withSettings};
+ghost use Rattle.channel.specs.State.{fresh, freshHead, zeros, leaving, on, plain, replied, withFlags, withSettings};
 ghost use Rattle.channel.specs.Lent.{lent, found, left, leaves};
 ghost use Rattle.channel.specs.Head.{endedBy, waits, stoTaken, seqTaken, slaNext, confNext, dataTo, dataNext, countNext, maskTo, placeTo};
 ghost use Rattle.channel.specs.Access.{settingOf, eitherAt, settingSet, readRefusal, controlOf, readBy, readOf};
@@ -503,7 +503,7 @@ impl Head {
         mem: &'a mut [u8],
     ) -> Headed
         requires { ⌜ length (now mem) ≡ bufferSize ⌝ }
-        ensures { λ r. ⌜ leaves r sla lens status counts mem ≡ keeping zeros (on fresh (plain freshHead)) ⌝ }
+        ensures { λ r. ⌜ leaves r sla lens status counts mem ≡ leaving zeros (on fresh (plain freshHead)) ⌝ }
     {
         rules::wipe(mem);
         *sla = [0; 64];

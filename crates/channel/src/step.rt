@@ -1,7 +1,7 @@
 // One step of a single channel: a write, a read, or an event of the wires.
 ghost use mathlib.Core.Path.{_≡_};
 ghost use Rattle.rules.specs.Numbers.{bufferSize};
-ghost use Rattle.channel.specs.State.{keeping};
+ghost use Rattle.channel.specs.State.{leaving};
 ghost use Rattle.channel.specs.Lent.{lent, found, leaves};
 ghost use Rattle.channel.specs.Step.{turnAt, eventAt, servedBy, rangeNumber, stepOf, bytesAfter};
 ghost use Rattle.channel.specs.Facts.{Accepted};
@@ -95,7 +95,7 @@ impl Channel {
     // A step of a channel that is in range.
     fn serve(self, number: u8, mem: &mut [u8], op: Op) -> Stepped
         requires { ⌜ Accepted self (now mem) ⌝ }
-        ensures { λ r. ⌜ keeping (now (mem .exit)) r ≡ servedBy self (now (mem .entry)) number op ⌝ }
+        ensures { λ r. ⌜ leaving (now (mem .exit)) r ≡ servedBy self (now (mem .entry)) number op ⌝ }
     {
         let mut sla = self.slatable;
         let mut lens = self.tranconfig;

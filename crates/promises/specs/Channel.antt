@@ -11,7 +11,7 @@ use Rattle.channel.specs.declared.step.Op.{Op}
 use Rattle.sequence.specs.declared.wires.Edge.{Edge}
 use Rattle.channel.specs.Lent.{joined, rejoined}
 use Rattle.channel.specs.Range.{inRange}
-use Rattle.channel.specs.State.{fresh, keeping}
+use Rattle.channel.specs.State.{fresh, leaving}
 use Rattle.channel.specs.Step.{servedBy, stepOf, bytesAfter}
 use Rattle.channel.specs.Wires.{triggered}
 use Rattle.promises.specs.Promise.{Once, no-second, both}
@@ -34,7 +34,7 @@ apart s =
 pub serve-lent-once : (self : Head) (sla lens status counts : List ℕ) (number : ℕ) (mem : List ℕ) (op : Op)
     → Once (Headed × List ℕ × List ℕ × List ℕ × List ℕ × List ℕ)
     (λ (r, sla′, lens′, status′, counts′, mem′).
-    keeping mem′ (rejoined r sla′ lens′ status′ counts′) ≡ servedBy (joined self sla lens status counts) mem number op)
+    leaving mem′ (rejoined r sla′ lens′ status′ counts′) ≡ servedBy (joined self sla lens status counts) mem number op)
 serve-lent-once self sla lens status counts number mem op =
     no-second (λ o h. λ i.
     let t = apart (h i .stepped) in

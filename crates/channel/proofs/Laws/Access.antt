@@ -19,7 +19,7 @@ use Rattle.rules.specs.Facts.{Known}
 use Rattle.channel.specs.declared.state.Channel.{Channel}
 use Rattle.channel.specs.declared.state.Headed.{Headed}
 use Rattle.channel.specs.declared.state.Head.{Head}
-use Rattle.channel.specs.State.{Served, fresh, freshHead, zeros, keeping, on, plain, refused, guarded, countOf, withHead, withKey}
+use Rattle.channel.specs.State.{Served, fresh, freshHead, zeros, leaving, on, plain, refused, guarded, countOf, withHead, withKey}
 use Rattle.channel.specs.Access.{readRefusal, readBy, readOf, refusalOf, writtenBy, writeOf, putOf}
 use Rattle.channel.specs.Step.{writeAt, readAt}
 use Rattle.channel.specs.Facts.{Accepted}
@@ -79,7 +79,7 @@ module _ (c : Channel) (m : List ℕ) (a : Accepted c m) where
   accepted-count = range-count c (a .ranged)
 
 -- ---- a step, from its number and what follows
-pub guarded-no : (c : Channel) (m : List ℕ) (d x : Served) (n k : ℕ) → n ≡ k → (n ≡ 0 → ⊥) → x ≡ keeping m (on c (refused (c .head) n)) → x ≡ guarded k c m d
+pub guarded-no : (c : Channel) (m : List ℕ) (d x : Served) (n k : ℕ) → n ≡ k → (n ≡ 0 → ⊥) → x ≡ leaving m (on c (refused (c .head) n)) → x ≡ guarded k c m d
 unfolding guarded
 guarded-no c m d x n k e h p = rw (← e) (pick-false _ _ _ _ (ne-eqb n 0 h) p)
 
@@ -93,13 +93,13 @@ module _ (c : Channel) (m : List ℕ) (place : Place) (reg : Register) (v : ℕ)
   resets : resetsOf (presetOf reg) v (c .head .key) ≡ b
   resets = rw (← ep) (sym eb)
 
-  pub write-reset : b ≡ true → x ≡ keeping zeros (on fresh (plain freshHead)) → x ≡ writeAt c m place v
+  pub write-reset : b ≡ true → x ≡ leaving zeros (on fresh (plain freshHead)) → x ≡ writeAt c m place v
   unfolding writeAt putOf
   write-reset t e = rw here (pick-true _ _ _ _ (resets ∙ t) e)
 
   module _ (f : b ≡ false) (h : Head) (k : Bool) (eh : h ≡ withKey (c .head) k) (ek : k ≡ keyAfter p v)
       (n : ℕ) (en : n ≡ refusalOf h (c .tranconfig) reg v) where
-    pub write-refused : (n ≡ 0 → ⊥) → x ≡ keeping m (on c (refused h n)) → x ≡ writeAt c m place v
+    pub write-refused : (n ≡ 0 → ⊥) → x ≡ leaving m (on c (refused h n)) → x ≡ writeAt c m place v
     unfolding writeAt putOf writeOf
     write-refused z e = rw here (pick-false _ _ _ _ (resets ∙ f) (guarded-no _ m _ _ n _ (rw (eh, ek, ep) at en) z (rw (eh, ek, ep) at e)))
 

@@ -25,7 +25,7 @@ use Rattle.rules.specs.Facts.{Known, KnownPlace, Running}
 use Rattle.channel.specs.declared.state.Channel.{Channel}
 use Rattle.channel.specs.Range.{inRange}
 use Rattle.channel.specs.declared.state.Stepped.{Stepped}
-use Rattle.channel.specs.State.{Served, keeping, countOf}
+use Rattle.channel.specs.State.{Served, leaving, countOf}
 use Rattle.channel.specs.Head.{framecntOf}
 use Rattle.channel.specs.Step.{turnAt, rangeNumber}
 use Rattle.channel.specs.Facts.{Accepted, Meets}
@@ -38,11 +38,11 @@ accepts c m n e z =
     record { ranged = accepted (inRange c) done outOfRange (omega arith) (a .1) .0; whole = eqb-true (length m) bufferSize (a .0) }
 
 -- what a step leaves, where no byte is changed
-pub keeps : (m : List ℕ) (s t : Stepped) → s ≡ t → keeping m s ≡ keeping m t
+pub keeps : (m : List ℕ) (s t : Stepped) → s ≡ t → leaving m s ≡ leaving m t
 keeps m s t e = rw e
 
 -- and its two parts
-pub steps : (m : List ℕ) (s : Stepped) (x : Served) → keeping m s ≡ x → (s ≡ x .stepped) × (m ≡ x .bytes)
+pub steps : (m : List ℕ) (s : Stepped) (x : Served) → leaving m s ≡ x → (s ≡ x .stepped) × (m ≡ x .bytes)
 steps m s x e = (ap (λ (y : Served). y .stepped) e, ap (λ (y : Served). y .bytes) e)
 
 pub known-here : (p : Place) (reg : Register) → KnownPlace p → p ≡ Here reg → Known reg
