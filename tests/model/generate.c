@@ -92,6 +92,7 @@ struct plan {
     int held;               /* has done so in this Waiting */
     int grow;               /* in Waiting, the count becomes n */
     int full;               /* all data are written and read back */
+    unsigned whole;         /* frames fed to their end in one go */
     int together;           /* no other line between those that wait */
     unsigned again;         /* starts with the same tables */
     char queue[QUEUE][LINE];
@@ -269,6 +270,17 @@ static void push_start(unsigned c)
         push_read(c, R_CONTROL);
 }
 
+/* A transaction to its end */
+static void push_transaction(unsigned c, int read, unsigned length)
+{
+    push_event(c, "ACK");
+    for (unsigned i = 0; i < length; i++)
+        if (read)
+            push_byte(c);
+        else
+            push_event(c, "ACK");
+}
+
 static void push_status_reads(unsigned c)
 {
     unsigned n = plans[c].n < ENTRIES ? plans[c].n + 1 : ENTRIES;
@@ -357,25 +369,41 @@ static void plan_skips(unsigned c)
     plan_frame(c);
 }
 
+/* No transaction is skipped: fed to its end, such a frame takes as many events
+ * as a frame can. */
+static void skip_none(struct plan *pl)
+{
+    for (unsigned t = 0; t < pl->n; t++)
+        if (pl->len[t] == 0)
+            pl->sla[t] &= 0xFE;
+}
+
 static void plan_many(unsigned c)
 {
-    fill(&plans[c], one_in(3) ? ENTRIES : between(20, ENTRIES), between(0, 3));
+    struct plan *pl = &plans[c];
+    fill(pl, one_in(3) ? ENTRIES : between(20, ENTRIES), between(0, 3));
+    if (one_in(3)) {
+        skip_none(pl);
+        pl->whole = 3;
+    }
     plan_frame(c);
 }
 
 static void plan_exact(unsigned c)
 {
-    fill_exactly(&plans[c], one_in(3) ? BUFFER + 1 : BUFFER);
-    plans[c].full = one_in(10);
-    plan_frame(c);
-    if (plans[c].full) {
-        plans[c].budget = 5000;
-        plans[c].nack = 0;
-        plans[c].side = 0;
+    struct plan *pl = &plans[c];
+    int fits = !one_in(3);
+    fill_exactly(pl, fits ? BUFFER : BUFFER + 1);
+    pl->whole = fits && one_in(6);
+    pl->full = pl->whole && one_in(3);
+    if (pl->whole) {
+        skip_none(pl);
+        pl->together = 1;
     } else {
-        plans[c].nack = 200;
-        plans[c].intmsk = 0x30;
+        pl->nack = 200;
+        pl->intmsk = 0x30;
     }
+    plan_frame(c);
 }
 
 /* A short frame first; in Waiting the count grows to one that fits just or
@@ -421,12 +449,7 @@ static void plan_last(unsigned c)
     for (unsigned t = 0; t + 1 < n; t++)
         push_event(c, "NACK");
     push_read_at(c, 64 * c + n - 1);
-    push_event(c, "ACK");
-    for (unsigned i = 0; i < length; i++)
-        if (pl->sla[n - 1] & 1)
-            push_byte(c);
-        else
-            push_event(c, "ACK");
+    push_transaction(c, pl->sla[n - 1] & 1, length);
     push_read_at(c, 64 * c + n - 1);
     push_event(c, "STOP");
     push_bytecount_reads(c, n + 1);
@@ -689,6 +712,7 @@ static void new_plan(unsigned c)
     }
     choose_manner(&plans[c]);
     plans[c].full = 0;
+    plans[c].whole = 0;
     plans[c].grow = 0;
     plans[c].together = 0;
     plans[c].again = between(0, 4);
@@ -873,10 +897,26 @@ static void feed_waiting(unsigned c)
         push_event(c, "TICK");
 }
 
+/* From the first address to the STOP, with no other line between */
+static void feed_whole(unsigned c)
+{
+    const struct channel *ch = &part.ch[c];
+    for (unsigned t = ch->tran; t < count_of(ch); t++)
+        if (!is_skipped(ch, t))
+            push_transaction(c, is_read(ch, t), length_of(ch, t));
+    push_event(c, "STOP");
+    plans[c].together = 1;
+}
+
 static void feed(unsigned c)
 {
     struct plan *pl = &plans[c];
     const struct channel *ch = &part.ch[c];
+    if (pl->whole > 0 && ch->phase == ADDRESS) {
+        pl->whole--;
+        feed_whole(c);
+        return;
+    }
     if (pl->budget > 0) {
         pl->budget--;
         if (per_mille(pl->side)) {

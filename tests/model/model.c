@@ -4,7 +4,8 @@
  *
  * Reads a script on standard input, prints a header and one line a step.
  *
- *   -DCHECK          after every step: in_range, and what a refusal leaves
+ *   -DCHECK          after every step: in_range, what a refusal leaves, and
+ *                    the loggers of logger.c; at the end, what they have seen
  *   -DMODEL_NO_MAIN  leaves out the program, for inclusion elsewhere
  */
 #include <stdint.h>
@@ -58,6 +59,25 @@ enum {
     R_NOTHING_FIRST = 0xF8, R_NOTHING_LAST = 0xFE, R_CTRLRDY = 0xFF
 };
 
+/* "Actions: S aa, R aa (repeated START), D bb, C (clock the first read byte),
+ *  A (acknowledge, clock the next), NP (not acknowledge, STOP), NR aa, P." */
+enum action_kind { A_NONE, A_S, A_R, A_D, A_C, A_A, A_NP, A_NR, A_P };
+
+struct action {
+    uint8_t kind, byte;
+};
+
+enum event { E_ACK, E_NACK, E_BYTE, E_TICK, E_STOP, E_SDA, E_SCL, E_ILL };
+
+/* TELL tells the channel's logger which event was answered 0, and what it has
+ * to know and no wire shows. */
+#ifdef CHECK
+#include "logger.c"
+#define TELL(ch, what) ((ch)->told |= (what))
+#else
+#define TELL(ch, what) ((void)0)
+#endif
+
 struct channel {
     uint8_t phase;
     uint8_t tp, te;             /* 0 or 1 */
@@ -76,6 +96,9 @@ struct channel {
     uint8_t tranconfig[ENTRIES + 1];    /* entry 0 is the count */
     uint8_t status[ENTRIES];
     uint8_t bytecount[ENTRIES];
+#ifdef CHECK
+    unsigned told;              /* of this step; no part of the state */
+#endif
 };
 
 /* "All buffers are one lent memory of 13,056 bytes; each channel works on its
@@ -101,6 +124,7 @@ static void reset_channel(struct channel *ch, uint8_t *buf)
     ch->sclh = 0x3F;
     ch->mode = 0x92;
     memset(buf, 0, BUFFER);
+    TELL(ch, TOLD_RESET);
 }
 
 static void reset_part(struct part *p)
@@ -156,14 +180,6 @@ enum {
     COUNT_ABOVE = 6,    /* TRANCONFIG entry 0 above 64 */
     NOT_AWAITED = 7,    /* an event not awaited */
     UNREADABLE = 8      /* script line that can't be read */
-};
-
-/* "Actions: S aa, R aa (repeated START), D bb, C (clock the first read byte),
- *  A (acknowledge, clock the next), NP (not acknowledge, STOP), NR aa, P." */
-enum action_kind { A_NONE, A_S, A_R, A_D, A_C, A_A, A_NP, A_NR, A_P };
-
-struct action {
-    uint8_t kind, byte;
 };
 
 static struct action no_action(void)
@@ -335,6 +351,12 @@ static int leaves_all(const struct part *before, const struct part *after)
     return memcmp(&a, &b, sizeof a) == 0;
 }
 
+static _Noreturn void give_up(void)
+{
+    fflush(stdout);
+    abort();
+}
+
 /* "No call leads out of range." */
 static void check_step(const struct part *before, const struct part *after,
                        const struct answer *a)
@@ -348,9 +370,8 @@ static void check_step(const struct part *before, const struct part *after,
     else if (a->code != OK)
         bad |= !leaves_all(before, after);
     if (bad) {
-        fflush(stdout);
         fprintf(stderr, "a step broke the rules\n");
-        abort();
+        give_up();
     }
 }
 
@@ -649,6 +670,7 @@ static struct action address(struct channel *ch, enum action_kind kind,
 static int begin_frame(struct channel *ch, struct action *act)
 {
     unsigned t;
+    TELL(ch, TOLD_BEGIN);
     /* "A frame begins: count 0, go Idle, nothing else." */
     if (count_of(ch) == 0) {
         go_idle(ch);
@@ -832,8 +854,6 @@ static int bus_error(struct channel *ch, int awaited, uint8_t flag)
     return OK;
 }
 
-enum event { E_ACK, E_NACK, E_BYTE, E_TICK, E_STOP, E_SDA, E_SCL, E_ILL };
-
 static int channel_event(struct channel *ch, uint8_t *buf, enum event e,
                          uint8_t b, struct action *act)
 {
@@ -858,6 +878,7 @@ static int channel_trigger(struct channel *ch, int falling, struct action *act)
 {
     if (!ch->te || ch->tp != falling || !is_active(ch))
         return OK;
+    TELL(ch, TOLD_EDGE);
     if (ch->phase == WAITING)
         return begin_frame(ch, act);
     late(ch);
@@ -1030,6 +1051,8 @@ static struct answer part_event(struct part *p, unsigned c, enum event e,
     if (c >= CHANNELS)
         return answer_code(NO_ADDRESS);
     code = channel_event(&p->ch[c], buffer_of(p, c), e, b, &act);
+    if (code == OK)
+        TELL(&p->ch[c], TOLD(e));
     note_boundary(p, code);
     return answer_action(code, c, act);
 }
@@ -1130,15 +1153,55 @@ static struct answer run_line(struct part *p, const uint8_t *s, size_t n)
     return answer_code(UNREADABLE);
 }
 
+#ifdef CHECK
+
+/* "A frame can't hang": one of the events that its bound counts would be
+ * answered 0. Each is tried on a copy. */
+static int awaits_counted(const struct channel *ch)
+{
+    static uint8_t buf[BUFFER];
+    for (unsigned e = E_ACK; e <= E_ILL; e++) {
+        struct channel copy = *ch;
+        struct action act;
+        if (COUNTED & TOLD(e) && channel_event(&copy, buf, e, 0, &act) == OK)
+            return 1;
+    }
+    return 0;
+}
+
+static void check_wires(struct part *p, const struct answer *a)
+{
+    static struct logger loggers[CHANNELS];
+    for (unsigned c = 0; c < CHANNELS; c++) {
+        const struct channel *ch = &p->ch[c];
+        struct sight s = {
+            ch->told, a->act[c], ch->slatable, ch->tranconfig, ch->bytecount,
+            buffer_of(p, c), read_control(ch), ch->intmsk
+        };
+        const char *broken = log_step(&loggers[c], &s);
+        if (broken == NULL && loggers[c].running && !awaits_counted(ch))
+            broken = "hang";
+        if (broken != NULL) {
+            fprintf(stderr, "channel %u: the logger differs: %s\n", c, broken);
+            give_up();
+        }
+    }
+}
+
+#endif
+
 /* One step, with the debug mode's checks around it */
 static struct answer run_step(struct part *p, const uint8_t *s, size_t n)
 {
 #ifdef CHECK
     static struct part before;
     struct answer a;
+    for (unsigned c = 0; c < CHANNELS; c++)
+        p->ch[c].told = 0;
     before = *p;
     a = run_line(p, s, n);
     check_step(&before, p, &a);
+    check_wires(p, &a);
     return a;
 #else
     return run_line(p, s, n);
@@ -1310,6 +1373,9 @@ int main(void)
     if (h.n > 0)
         step(h.bytes, h.n);
     flush_out();
+#ifdef CHECK
+    print_seen();
+#endif
     return fflush(stdout) == 0 ? 0 : 1;
 }
 

@@ -1,0 +1,284 @@
+/*
+ * A logger beside each channel, as a logic analyser on its wires would be. It
+ * sees the events that the channel answered 0, the actions, the two tables
+ * and the buffer, and counts by these alone. After every step it compares.
+ *
+ * model.c includes it before struct channel is known: it can't look at a
+ * channel's phase or transaction, and BYTECOUNT is handed to it to be
+ * compared.
+ */
+
+/* What it is told of a step: the bit of an event answered 0, and what no wire
+ * shows. A frame of skipped transactions only has no action, and its STATUS
+ * may be that of the frame before; a reset sends no STOP. */
+#define TOLD(event) (1u << (event))
+enum {
+    TOLD_EDGE = TOLD(8),    /* a trigger edge for this channel */
+    TOLD_BEGIN = TOLD(9),   /* a frame is to begin; the tables say if it can */
+    TOLD_RESET = TOLD(10)
+};
+
+/* "of the ACK, NACK, BYTE and STOP events answered 0; TICK and triggers don't
+ *  count" */
+enum {
+    COUNTED = TOLD(E_ACK) | TOLD(E_NACK) | TOLD(E_BYTE) | TOLD(E_STOP)
+};
+
+/* What it sees of a step */
+struct sight {
+    unsigned told;
+    struct action act;
+    const uint8_t *slatable, *tranconfig, *bytecount, *buffer;
+    uint8_t control, intmsk;    /* for the counters only */
+};
+
+struct logger {
+    /* as they were when the frame began */
+    uint8_t slatable[ENTRIES], tranconfig[ENTRIES + 1], buffer[BUFFER];
+    /* by the wires since then */
+    uint8_t count[ENTRIES];     /* data bytes acknowledged or received */
+    unsigned spent, bound;      /* counted events: so far, at most */
+    unsigned next;              /* behind the one addressed; 0 before S */
+    unsigned start, sent;       /* of the one addressed: place, D actions */
+    uint8_t running;
+    uint8_t out;                /* a D without its ninth clock */
+    uint8_t late;               /* FE is recorded */
+    uint8_t why;                /* what cut the frame short; a counter */
+};
+
+/* ---- Counters ---------------------------------------------------------- */
+
+enum {
+    ENDED, EXACT, EXACT_64, EXACT_4352, OF_64, OF_4352, BY_STO, BY_FE, BY_NACK,
+    BY_SDA, BY_SCL, BY_ILL, BY_RESET, D_REFUSED, D_CUT_OFF, FROM_STA,
+    FROM_TICK, FROM_TRIGGER, ALL_SKIPPED, COUNT_0, TOO_LONG, COUNTERS
+};
+
+static const char *const counter_names[COUNTERS] = {
+    [ENDED] = "ended",
+    [EXACT] = "bound-met",
+    [EXACT_64] = "bound-met-by-64",
+    [EXACT_4352] = "bound-met-by-4352",
+    [OF_64] = "of-64",
+    [OF_4352] = "of-4352",
+    [BY_STO] = "cut-by-STO",
+    [BY_FE] = "cut-by-FE",
+    [BY_NACK] = "ended-by-NACK",
+    [BY_SDA] = "ended-by-SDA",
+    [BY_SCL] = "ended-by-SCL",
+    [BY_ILL] = "ended-by-ILL",
+    [BY_RESET] = "ended-by-reset",
+    [D_REFUSED] = "D-refused",
+    [D_CUT_OFF] = "D-cut-off",
+    [FROM_STA] = "begun-by-STA",
+    [FROM_TICK] = "begun-by-TICK",
+    [FROM_TRIGGER] = "begun-by-trigger",
+    [ALL_SKIPPED] = "all-skipped",
+    [COUNT_0] = "count-0",
+    [TOO_LONG] = "too-long"
+};
+
+static unsigned long seen[COUNTERS];
+
+static void print_seen(void)
+{
+    for (unsigned i = 0; i < COUNTERS; i++)
+        fprintf(stderr, "seen %s %lu\n", counter_names[i], seen[i]);
+}
+
+/* ---- The tables -------------------------------------------------------- */
+
+static unsigned logged_length(const struct logger *log, unsigned t)
+{
+    return log->tranconfig[1 + t];
+}
+
+static int logged_read(const struct logger *log, unsigned t)
+{
+    return log->slatable[t] & 1;
+}
+
+static unsigned logged_sum(const uint8_t *tranconfig, unsigned n)
+{
+    unsigned sum = 0;
+    for (unsigned t = 0; t < n; t++)
+        sum += tranconfig[1 + t];
+    return sum;
+}
+
+/* "A read of length 0 is skipped as done."
+ * The first from log->next on that isn't, or the count */
+static unsigned logged_walk(const struct logger *log)
+{
+    unsigned t = log->next;
+    while (t < log->tranconfig[0] && logged_read(log, t)
+           && logged_length(log, t) == 0)
+        t++;
+    return t;
+}
+
+/* ---- The frame on the wires -------------------------------------------- */
+
+/* "Show that a frame with no SDA, SCL or ILL takes at most its count plus its
+ *  summed lengths plus one" */
+static const char *log_begin(struct logger *log, const struct sight *s)
+{
+    unsigned n = s->tranconfig[0], sum = logged_sum(s->tranconfig, n);
+    if (log->running)
+        return "action";
+    /* 'The frame' is the last one that did begin: these leave it. */
+    if (n == 0 || sum > BUFFER) {
+        seen[n == 0 ? COUNT_0 : TOO_LONG]++;
+        return NULL;
+    }
+    memset(log, 0, sizeof *log);
+    memcpy(log->slatable, s->slatable, sizeof log->slatable);
+    memcpy(log->tranconfig, s->tranconfig, sizeof log->tranconfig);
+    memcpy(log->buffer, s->buffer, sizeof log->buffer);
+    seen[s->told & TOLD(E_TICK) ? FROM_TICK
+         : s->told & TOLD_EDGE ? FROM_TRIGGER : FROM_STA]++;
+    /* A frame of skipped transactions only takes 0 events. */
+    if (logged_walk(log) == n) {
+        seen[ALL_SKIPPED]++;
+        return NULL;
+    }
+    log->running = 1;
+    log->bound = n + sum + 1;
+    return NULL;
+}
+
+/* "The first transaction that is not skipped sends START and its SLATABLE
+ *  byte; later ones a repeated START" */
+static const char *log_start(struct logger *log, struct action act)
+{
+    unsigned t = logged_walk(log);
+    if (t == log->tranconfig[0] || act.byte != log->slatable[t])
+        return "action";
+    log->next = t + 1;
+    log->start = logged_sum(log->tranconfig, t);
+    log->sent = 0;
+    return NULL;
+}
+
+/* "bytes sent by a write are the buffer's bytes in order", of the buffer at
+ * this moment and of the buffer at the frame's begin */
+static const char *log_data(struct logger *log, uint8_t byte,
+                            const uint8_t *buffer)
+{
+    unsigned t = log->next - 1, at = log->start + log->sent;
+    if (logged_read(log, t) || log->sent == logged_length(log, t)
+        || byte != buffer[at] || byte != log->buffer[at])
+        return "byte";
+    log->sent++;
+    log->out = 1;
+    /* So there are BYTECOUNT or BYTECOUNT plus one of them. */
+    return log->sent == log->count[t] + 1u ? NULL : "byte";
+}
+
+/* P or NP: whether the tables had more, and what cut them short */
+static void log_stop(struct logger *log, const struct sight *s)
+{
+    unsigned t = log->next - 1;
+    int nack = (s->told & TOLD(E_NACK)) != 0;
+    int more = logged_walk(log) < log->tranconfig[0]
+        || (!nack && log->count[t] < logged_length(log, t));
+    if (nack && !(s->intmsk & (logged_read(log, t) ? RE : WE)))
+        log->why = BY_NACK;
+    else if (more && log->late)
+        log->why = BY_FE;
+    else if (more && (s->control & STO))
+        log->why = BY_STO;
+}
+
+static const char *log_action(struct logger *log, const struct sight *s)
+{
+    /* S in the step that begins the frame, and only there; none outside */
+    if ((log->running && log->next == 0) != (s->act.kind == A_S)
+        || (!log->running && s->act.kind != A_NONE))
+        return "action";
+    switch (s->act.kind) {
+    case A_S: case A_R: case A_NR:
+        return log_start(log, s->act);
+    case A_D:
+        return log_data(log, s->act.byte, s->buffer);
+    case A_P: case A_NP:
+        log_stop(log, s);
+        break;
+    }
+    return NULL;
+}
+
+static void log_end(struct logger *log)
+{
+    unsigned n = log->tranconfig[0];
+    int exact = log->spent == log->bound;
+    int full = logged_sum(log->tranconfig, n) == BUFFER;
+    log->running = 0;
+    seen[ENDED]++;
+    seen[EXACT] += exact;
+    seen[OF_64] += n == ENTRIES;
+    seen[OF_4352] += full;
+    seen[EXACT_64] += exact && n == ENTRIES;
+    seen[EXACT_4352] += exact && full;
+    if (log->why)
+        seen[log->why]++;
+}
+
+/* SDA, SCL, ILL or a reset */
+static void log_fault(struct logger *log, unsigned counter)
+{
+    log->running = 0;
+    seen[counter]++;
+    seen[D_CUT_OFF] += log->out;
+}
+
+/* "each BYTECOUNT equals the number of data bytes acknowledged or received for
+ *  that transaction in the events since the frame began" */
+static const char *log_event(struct logger *log, const struct sight *s)
+{
+    unsigned t = log->next - 1;
+    if (!log->running)
+        return s->told & COUNTED ? "bound" : NULL;
+    if (s->told & COUNTED)
+        log->spent++;
+    if (s->told & TOLD(E_ACK) && log->out)
+        log->count[t]++;
+    if (s->told & TOLD(E_BYTE))
+        log->count[t]++;
+    if (s->told & TOLD(E_NACK))
+        seen[D_REFUSED] += log->out;
+    if (s->told & (TOLD(E_ACK) | TOLD(E_NACK)))
+        log->out = 0;
+    if (s->told & TOLD(E_STOP))
+        log_end(log);
+    if (s->told & TOLD(E_SDA))
+        log_fault(log, BY_SDA);
+    if (s->told & TOLD(E_SCL))
+        log_fault(log, BY_SCL);
+    if (s->told & TOLD(E_ILL))
+        log_fault(log, BY_ILL);
+    if (s->told & TOLD_RESET)
+        log_fault(log, BY_RESET);
+    /* "Late with FEMSK 1: FE set, no more. Otherwise FE is recorded." */
+    if (s->told & (TOLD(E_TICK) | TOLD_EDGE) && !(s->intmsk & FE))
+        log->late = 1;
+    return NULL;
+}
+
+/* A step: the rule that is broken, or NULL */
+static const char *log_step(struct logger *log, const struct sight *s)
+{
+    const char *broken = log_event(log, s);
+    if (s->told & TOLD_RESET)
+        memset(log, 0, sizeof *log);
+    if (broken == NULL && s->told & TOLD_BEGIN)
+        broken = log_begin(log, s);
+    if (broken == NULL)
+        broken = log_action(log, s);
+    if (broken == NULL && log->spent > log->bound)
+        broken = "bound";
+    if (broken == NULL
+        && memcmp(log->count, s->bytecount, sizeof log->count) != 0)
+        broken = "count";
+    return broken;
+}
