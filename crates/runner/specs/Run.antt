@@ -2,8 +2,12 @@
 use Prim.Native.Nat.{ℕ}
 use mathlib.Core.List.{List}
 use Rattle.mixes.specs.Mix.{Machine}
+use Rattle.part.specs.declared.map.Target.{Target}
+use Rattle.part.specs.declared.map.Target.the-variants.{All}
+use Rattle.part.specs.declared.map.Wide.the-variants.{Beyond}
 use Rattle.part.specs.declared.state.Part.{Part}
 use Rattle.part.specs.declared.state.PartAnswer.{PartAnswer}
+use Rattle.part.specs.Map.{targetOf}
 use Rattle.independent.specs.Statement.{State, thePart}
 use Rattle.script.specs.declared.reading.Line.{Line}
 use Rattle.script.specs.declared.reading.Line.the-variants.{Readable, Unreadable}
@@ -28,6 +32,14 @@ afterLine s Unreadable = s
 abbrev pub ownerOfLine : Line → ℕ
 ownerOfLine (Readable a) = thePart .owner a
 ownerOfLine Unreadable = 3
+
+-- whom a line concerns; one that can't be read concerns none, as an event of a channel above 2
+abbrev pub lineTarget : Line → Target
+lineTarget (Readable a) = targetOf a
+lineTarget Unreadable = All Beyond
+
+abbrev pub lineAim : List ℕ → Target
+lineAim l = lineTarget (lineOf l)
 
 -- the script as a machine: a step is the bytes of a line
 abbrev pub theScript : Machine State (List ℕ) PartAnswer

@@ -1,3 +1,4 @@
 pub mod Model
 pub mod Run
 pub mod Sheet
+pub mod Tight

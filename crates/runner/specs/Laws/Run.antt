@@ -1,16 +1,21 @@
--- Lines of different channels keep apart, as their steps do.
+-- Lines of different channels keep apart, as their steps do; and a run of lines is one of the part's steps.
 use Prim.Native.Nat.{ℕ, _<_}
 use mathlib.Core.List.{List}
-use mathlib.Core.Path.{_≡_, ap}
+use mathlib.Core.Path.{_≡_, refl, ap}
 use native.Mathlib.Omega.{arith}
 use Rattle.mixes.specs.Mix.{OfSome}
 use Rattle.mixes.specs.Laws.Apart.{Apart}
+use Rattle.part.specs.Facts.{InPart}
+use Rattle.part.specs.Step.{allServed, allStored, partServed, partStored}
 use Rattle.independent.specs.Statement.{State, Accepted}
 use Rattle.independent.specs.Laws.Apart.{part-apart}
+use Rattle.frames.specs.Deeds.{heardBy}
+use Rattle.frames.specs.Theorem.{part-follows}
+use Rattle.frames.specs.Laws.Runs.{Follows}
 use Rattle.script.specs.declared.reading.Line.{Line}
 use Rattle.script.specs.declared.reading.Line.the-variants.{Readable, Unreadable}
 use Rattle.script.specs.Grammar.{lineOf}
-use Rattle.runner.specs.Run.{lineAnswer, afterLine, ownerOfLine, theScript}
+use Rattle.runner.specs.Run.{lineAnswer, afterLine, ownerOfLine, lineTarget, lineAim, theScript}
 
 -- a line of a channel
 abbrev Own : Line → Type 0
@@ -38,4 +43,42 @@ script-apart = record {
   kept = λ s a g h. kept s (lineOf a) g h;
   unmoved = λ s a b g h i ne. unmoved s (lineOf a) (lineOf b) g h i ne;
   commute = λ s a b g h i ne. commute s (lineOf a) (lineOf b) g h i ne;
+}
+
+-- ---- a run of lines, as a run of the part's steps
+-- what a line does, by whom it concerns
+module _ (s : State) (g : Accepted s) where
+  abbrev Served : Line → Type 0
+  Served l = afterLine s l ≡ record { part = partServed (s .part) (s .memory) (lineTarget l) .part; memory = partStored (s .part) (s .memory) (lineTarget l) }
+
+  line-keeps : (l : Line) → Accepted (afterLine s l)
+  line-keeps (Readable a) = part-follows .keeps s a g
+  line-keeps Unreadable = g
+
+  line-after : (l : Line) → Served l
+  unfolding partServed partStored allServed allStored
+  line-after (Readable a) = part-follows .after s a g
+  line-after Unreadable = refl
+
+  line-actions : (l : Line) → lineAnswer s l .actions ≡ partServed (s .part) (s .memory) (lineTarget l) .answer .actions
+  unfolding partServed allServed
+  line-actions (Readable a) = part-follows .actions s a g
+  line-actions Unreadable = refl
+
+  line-hears : (l : Line) (c : ℕ) → heardBy c (lineTarget l) (lineAnswer s l .number) ≡ heardBy c (lineTarget l) (partServed (s .part) (s .memory) (lineTarget l) .answer .number)
+  unfolding heardBy
+  line-hears (Readable a) c = part-follows .hears s a c g
+  line-hears Unreadable c = refl
+
+line-concerns : (l : Line) → InPart (lineTarget l)
+line-concerns (Readable a) = part-follows .concerns a
+line-concerns Unreadable = tt
+
+pub script-follows : Follows theScript lineAim
+script-follows = record {
+  concerns = λ l. line-concerns (lineOf l);
+  keeps = λ s l g. line-keeps s g (lineOf l);
+  after = λ s l g. line-after s g (lineOf l);
+  actions = λ s l g. line-actions s g (lineOf l);
+  hears = λ s l c g. line-hears s g (lineOf l) c;
 }

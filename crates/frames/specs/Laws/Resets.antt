@@ -1,0 +1,71 @@
+-- What is called a reset of channel c leaves it as after a reset.
+use Prim.Native.Nat.{ℕ, zero, suc, _<_}
+use mathlib.Core.Bool.{true}
+use mathlib.Core.List.{List}
+use mathlib.Core.Path.{_≡_, refl, _∙_}
+use native.Mathlib.Omega.{arith}
+use borrow.Author.Tests.{eq-eqb}
+use lib.ListN.{length}
+use lib.Seq.{getD-set-same}
+use Rattle.laws.specs.Pick.{if_then_else_}
+use Rattle.rules.specs.declared.registers.Place.{Place}
+use Rattle.rules.specs.declared.registers.Place.the-variants.{Here, Elsewhere}
+use Rattle.rules.specs.Registers.{placeOf}
+use Rattle.channel.specs.declared.state.Channel.{Channel}
+use Rattle.channel.specs.declared.step.Op.{Op}
+use Rattle.channel.specs.declared.step.Op.the-variants.{Write, Read, Wire}
+use Rattle.channel.specs.Access.{putOf}
+use Rattle.channel.specs.State.{fresh}
+use Rattle.channel.specs.Step.{writeAt, servedBy}
+use Rattle.part.specs.declared.map.Target.{Target}
+use Rattle.part.specs.declared.map.Target.the-variants.{One, All}
+use Rattle.part.specs.declared.map.Wide.the-variants.{CtrlWrite, CtrlRead, AllTrigger, AllReset, Beyond}
+use Rattle.part.specs.declared.state.Part.{Part}
+use Rattle.part.specs.declared.state.PartAnswer.{PartAnswer}
+use Rattle.part.specs.Registers.{ctrlPut}
+use Rattle.part.specs.State.{blank, chan, freshPart}
+use Rattle.part.specs.Step.{oneStep, allServed, partServed}
+use Rattle.mixes.specs.Mix.{Machine}
+use Rattle.independent.specs.Statement.{State, Accepted}
+use Rattle.frames.specs.Deeds.{placeResets, opResets, resetsBy}
+use Rattle.frames.specs.Statement.{channelOf}
+use Rattle.frames.specs.Laws.Steps.{no}
+use Rattle.frames.specs.Laws.View.{split}
+use Rattle.frames.specs.Laws.Runs.{Follows}
+
+place-resets : (c : Channel) (m : List ℕ) (p : Place) (v : ℕ) → placeResets c p v ≡ true → writeAt c m p v .stepped .channel ≡ fresh
+unfolding writeAt putOf if_then_else_
+place-resets c m (Here reg) v e = rw e
+place-resets c m Elsewhere v e = no e
+
+op-resets : (c : Channel) (m : List ℕ) (number : ℕ) (op : Op) → opResets c number op ≡ true → servedBy c m number op .stepped .channel ≡ fresh
+unfolding servedBy
+op-resets c m number (Write a v) e = place-resets c m (placeOf number a) v e
+op-resets c m number (Read a) e = no e
+op-resets c m number (Wire x) e = no e
+
+fresh-at : (c : ℕ) → c < 3 → chan freshPart c ≡ fresh
+fresh-at zero h = refl
+fresh-at (suc zero) h = refl
+fresh-at (suc (suc zero)) h = refl
+fresh-at (suc (suc (suc c))) h = absurd (omega (arith, h))
+
+module _ (p : Part) (m : List ℕ) (c : ℕ) (low : c < 3) (inside : c < length (p .channels)) where
+  ResetAt : Target → Type 0
+  ResetAt t = resetsBy c p t ≡ true → chan (partServed p m t .part) c ≡ fresh
+
+  resets-fresh : (t : Target) → resetsBy c p t ≡ true → chan (partServed p m t .part) c ≡ fresh
+  unfolding ResetAt resetsBy partServed allServed oneStep ctrlPut if_then_else_
+  resets-fresh (One op d) e =
+      split c ResetAt
+      (λ op e. let q = eq-eqb c c refl in getD-set-same (p .channels) c _ blank inside ∙ op-resets (chan p c) _ c op (rw q at e))
+      (λ op d q e. no (rw q at e)) op d e
+  resets-fresh (All (CtrlWrite reg v)) e = rw e (fresh-at c low)
+  resets-fresh (All (CtrlRead reg)) e = no e
+  resets-fresh (All (AllTrigger edge)) e = no e
+  resets-fresh (All AllReset) e = fresh-at c low
+  resets-fresh (All Beyond) e = no e
+
+pub resets : {A : Type 0} (M : Machine State A PartAnswer) (aim : A → Target) → Follows M aim → (c : ℕ) → c < 3 → (s : State) (a : A) → Accepted s → c < length (s .part .channels)
+    → resetsBy c (s .part) (aim a) ≡ true → channelOf c (M .after s a) ≡ fresh
+resets M aim f c low s a acc inside e = rw (f .after s a acc) (resets-fresh (s .part) (s .memory) c low inside (aim a) e)

@@ -1,0 +1,220 @@
+-- A step of the part as one channel sees it.
+use Prim.Native.Nat.{ℕ, zero, suc, _+_, _*_, _<_, _≤_}
+use mathlib.Core.Bool.{Bool, true, false}
+use mathlib.Core.List.{List, [], _∷_, _++_, map}
+use mathlib.Core.Path.{_≡_, refl, sym, _∙_, ap, subst}
+use native.Mathlib.Omega.{arith}
+use native.Mathlib.Nat.{not-suc-le-zero, le-of-suc-le-suc}
+use borrow.Author.Tests.{eqb-true, eqb-false, eq-eqb}
+use lib.Dec.{eqb}
+use lib.ListN.{length, getD, take, drop, length-set}
+use lib.Seq.{getD-set-same, getD-set-other, take-at, drop-at, length-take-le}
+use Rattle.laws.specs.Pick.{if_then_else_}
+use Rattle.rules.specs.Access.{keyAfter, resetsOf}
+use Rattle.rules.specs.Numbers.{bufferSize}
+use Rattle.sequence.specs.declared.wires.Action.the-variants.{Nothing}
+use Rattle.sequence.specs.declared.wires.Edge.{Edge}
+use Rattle.channel.specs.declared.state.Channel.{Channel}
+use Rattle.channel.specs.declared.step.Op.{Op}
+use Rattle.channel.specs.State.{Served, leaving, on, plain}
+use Rattle.channel.specs.Step.{servedBy}
+use Rattle.channel.specs.Wires.{triggered}
+use Rattle.part.specs.declared.map.Ctrl.{Ctrl}
+use Rattle.part.specs.declared.map.Ctrl.the-variants.{Ctrlstatus, Ctrlintmsk, Reserved, DeviceId, Ctrlpreset, Nothing as Nowhere, Ctrlrdy}
+use Rattle.part.specs.declared.map.Target.{Target}
+use Rattle.part.specs.declared.map.Target.the-variants.{One, All}
+use Rattle.part.specs.declared.map.Wide.{Wide}
+use Rattle.part.specs.declared.map.Wide.the-variants.{CtrlWrite, CtrlRead, AllTrigger, AllReset, Beyond}
+use Rattle.part.specs.declared.state.Act.{Act}
+use Rattle.part.specs.declared.state.Part.{Part}
+use Rattle.part.specs.declared.state.PartStepped.{PartStepped}
+use Rattle.part.specs.Facts.{InPart, Whole}
+use Rattle.part.specs.Registers.{ctrlRead, ctrlWritten, ctrlpresetOf, ctrlPut, ctrlStore}
+use Rattle.part.specs.State.{blank, chan, window, putWindow, quiet, withKey}
+use Rattle.part.specs.Step.{edgeChannel, edgeAct, oneStep, oneBytes, triggerStep, allServed, allStored, partServed, partStored}
+use Rattle.part.specs.Laws.Memory.{fits}
+use Rattle.part.specs.Laws.Kept.{one-length}
+use Rattle.part.specs.Laws.Apart.{one-others}
+use Rattle.frames.specs.Wire.{Heard, Watch}
+use Rattle.frames.specs.Deeds.{runsOf, heardBy, allResets, resetsBy, asksBy}
+use Rattle.frames.specs.Statement.{actionAt}
+use Rattle.frames.specs.Laws.Goes.{Goes}
+use Rattle.frames.specs.Laws.Steps.{no, Under, own-goes, edge-goes, other-goes}
+use Rattle.frames.specs.Laws.Rests.{Outside, own-outside, edge-outside, same-outside}
+
+-- ---- a step of one channel is its own or another's
+pub split : (c : ℕ) (Q : Target → Type 0) → ((op : Op) → Q (One op c)) → ((op : Op) (d : ℕ) → eqb d c ≡ false → Q (One op d)) → (op : Op) (d : ℕ) → Q (One op d)
+split c Q own other op d = go (eqb d c) refl
+  where
+    go : (b : Bool) → eqb d c ≡ b → Q (One op d)
+    go true e = subst (λ (x : ℕ). Q (One op x)) (sym (eqb-true d c e)) (own op)
+    go false e = other op d e
+
+own-eqb : (c : ℕ) → eqb c c ≡ true
+own-eqb c = eq-eqb c c refl
+
+-- ---- what a channel feels of a step: its own, a trigger edge, or nothing
+abbrev pub unmoved : Channel → List ℕ → Served
+unmoved c m = leaving m (on c (plain (c .head)))
+
+abbrev pub feltAll : Channel → List ℕ → Wide → Served
+feltAll c m (CtrlWrite reg v) = unmoved c m
+feltAll c m (CtrlRead reg) = unmoved c m
+feltAll c m (AllTrigger edge) = leaving m (triggered c edge)
+feltAll c m AllReset = unmoved c m
+feltAll c m Beyond = unmoved c m
+
+unfoldable pub felt : Channel → List ℕ → ℕ → Target → Served
+felt c m number (One op d) = if eqb d number then servedBy c m number op else unmoved c m
+felt c m number (All t) = feltAll c m t
+
+-- channel c of the part q with the memory n and these actions is what d says
+pub record Shows (c : ℕ) (q : Part) (n : List ℕ) (acts : List Act) (many : ℕ) (d : Served) : Type 0 where
+  pub is : chan q c ≡ d .stepped .channel
+  pub bytes : window c n ≡ d .bytes
+  pub action : actionAt c acts ≡ d .stepped .answer .action
+  pub size : length (q .channels) ≡ many
+
+-- ---- lists
+map-at : {A B : Type 0} (f : A → B) (l : List A) (i : ℕ) (d : A) (e : B) → i < length l → getD (map f l) i e ≡ f (getD l i d)
+map-at f [] i d e h = absurd (not-suc-le-zero h)
+map-at f (x ∷ l) zero d e h = refl
+map-at f (x ∷ l) (suc i) d e h = map-at f l i d e (le-of-suc-le-suc h)
+
+map-length : {A B : Type 0} (f : A → B) (l : List A) → length (map f l) ≡ length l
+map-length f [] = refl
+map-length f (x ∷ l) = ap suc (map-length f l)
+
+quiet-at : (c : ℕ) → actionAt c quiet ≡ Nothing
+quiet-at zero = refl
+quiet-at (suc zero) = refl
+quiet-at (suc (suc zero)) = refl
+quiet-at (suc (suc (suc c))) = refl
+
+-- a window that is put is there
+window-same : (c : ℕ) (l m : List ℕ) → length l ≡ bufferSize → bufferSize * c + bufferSize ≤ length m → window c (putWindow c l m) ≡ l
+unfolding window putWindow
+window-same c l m e h =
+    let k : length (take (bufferSize * c) m) ≡ bufferSize * c = length-take-le (bufferSize * c) m (omega (arith, h)) in
+    rw (drop-at (take (bufferSize * c) m) (l ++ drop (bufferSize * c + bufferSize) m) (bufferSize * c) k) (take-at l (drop (bufferSize * c + bufferSize) m) bufferSize e)
+
+-- ---- a step that is not refused by no. 9, of a part that has channel c
+module _ (p : Part) (m : List ℕ) (c : ℕ) (whole : Whole p m) (low : c < 3) (inside : c < length (p .channels)) where
+  abbrev Sees : PartStepped → List ℕ → Served → Type 0
+  Sees r n d = Shows c (r .part) n (r .answer .actions) (length (p .channels)) d
+
+  own : (op : Op) → Sees (oneStep p m c op) (oneBytes p m c op) (servedBy (chan p c) (window c m) c op)
+  unfolding oneStep oneBytes
+  own op = record {
+    is = getD-set-same (p .channels) c _ blank inside;
+    bytes = window-same c _ m (one-length p m whole c op low) (fits c m low (whole .whole));
+    action = ap (λ (x : Act). x .action) (getD-set-same quiet c _ _ low);
+    size = length-set (p .channels) c _;
+  }
+
+  other : (d : ℕ) (op : Op) → d < 3 → (d ≡ c → ⊥) → Sees (oneStep p m d op) (oneBytes p m d op) (unmoved (chan p c) (window c m))
+  unfolding oneStep
+  other d op h ne =
+      let o = one-others p m d op whole h in
+      record {
+        is = o .records c ne;
+        bytes = o .windows c ne;
+        action = ap (λ (x : Act). x .action) (getD-set-other quiet d c _ _ (λ e. ne (sym e))) ∙ quiet-at c;
+        size = length-set (p .channels) d _;
+      }
+
+  -- one that leaves the channels
+  left : (q : Part) → q .channels ≡ p .channels → Shows c q m quiet (length (p .channels)) (unmoved (chan p c) (window c m))
+  left q e = record { is = ap (λ (l : List Channel). getD l c blank) e; bytes = refl; action = quiet-at c; size = ap length e }
+
+  written : (k : Bool) (reg : Ctrl) (v : ℕ) → Sees (ctrlWritten (withKey p k) reg v) m (unmoved (chan p c) (window c m))
+  unfolding ctrlWritten
+  written k Ctrlstatus v = left _ refl
+  written k Ctrlintmsk v = left _ refl
+  written k Reserved v = left _ refl
+  written k DeviceId v = left _ refl
+  written k Ctrlpreset v = left _ refl
+  written k Nowhere v = left _ refl
+  written k Ctrlrdy v = left _ refl
+
+  put : (reg : Ctrl) (v : ℕ) → resetsOf (ctrlpresetOf reg) v (p .key) ≡ false → Sees (ctrlPut p reg v) (ctrlStore p m reg v) (unmoved (chan p c) (window c m))
+  unfolding ctrlPut ctrlStore if_then_else_
+  put reg v e = rw e (written (keyAfter (ctrlpresetOf reg) v) reg v)
+
+  read : (reg : Ctrl) → Sees (ctrlRead p reg) m (unmoved (chan p c) (window c m))
+  unfolding ctrlRead
+  read Ctrlstatus = left _ refl
+  read Ctrlintmsk = left _ refl
+  read Reserved = left _ refl
+  read DeviceId = left _ refl
+  read Ctrlpreset = left _ refl
+  read Nowhere = left _ refl
+  read Ctrlrdy = left _ refl
+
+  edge : (e : Edge) → Sees (triggerStep p e) m (leaving (window c m) (triggered (chan p c) e))
+  unfolding triggerStep
+  edge e = record {
+    is = map-at (edgeChannel e) (p .channels) c blank blank inside;
+    bytes = refl;
+    action = ap (λ (x : Act). x .action) (map-at (edgeAct e) (p .channels) c blank (record { action = Nothing }) inside);
+    size = map-length (edgeChannel e) (p .channels);
+  }
+
+  all : (t : Wide) → allResets p t ≡ false → Sees (allServed p t) (allStored p m t) (feltAll (chan p c) (window c m) t)
+  unfolding allServed allStored
+  all (CtrlWrite reg v) e = put reg v e
+  all (CtrlRead reg) e = read reg
+  all (AllTrigger x) e = edge x
+  all AllReset e = no (sym e)
+  all Beyond e = left _ refl
+
+  -- A STEP THAT DOES NOT RESET CHANNEL c is what the channel feels
+  SeenAt : Target → Type 0
+  SeenAt t = InPart t → resetsBy c p t ≡ false → Sees (partServed p m t) (partStored p m t) (felt (chan p c) (window c m) c t)
+
+  pub seen : (t : Target) → InPart t → resetsBy c p t ≡ false → Sees (partServed p m t) (partStored p m t) (felt (chan p c) (window c m) c t)
+  unfolding SeenAt partServed partStored felt resetsBy if_then_else_
+  seen (One op d) h e = split c SeenAt (λ op h e. rw (own-eqb c) (own op)) (λ op d q h e. rw q (other d op h (eqb-false d c q))) op d h e
+  seen (All t) h e = all t e
+
+  -- and what is heard of it
+  HeardAt : Target → Type 0
+  HeardAt t = heardBy c t (partServed p m t .answer .number) ≡ heardBy c t (felt (chan p c) (window c m) c t .stepped .answer .number)
+
+  pub same-heard : (t : Target) → heardBy c t (partServed p m t .answer .number) ≡ heardBy c t (felt (chan p c) (window c m) c t .stepped .answer .number)
+  unfolding HeardAt partServed heardBy felt oneStep if_then_else_
+  same-heard (One op d) = split c HeardAt (λ op. rw (own-eqb c)) (λ op d q. rw q) op d
+  same-heard (All t) = refl
+
+-- ---- what a channel feels, in a frame and outside one
+module _ (p : Part) (m : List ℕ) (c : ℕ) (low : c < 3) where
+  abbrev heard : Target → Heard
+  heard t = heardBy c t (felt (chan p c) m c t .stepped .answer .number)
+
+  module _ (w : Watch) (u : Under (chan p c) w (chan p c .head .walk .phase)) where
+    GoesAt : Target → Type 0
+    GoesAt t = resetsBy c p t ≡ false → Goes (chan p c .head .walk .phase) (chan p c) m w (heard t) (felt (chan p c) m c t)
+
+    pub felt-goes : (t : Target) → resetsBy c p t ≡ false → Goes (chan p c .head .walk .phase) (chan p c) m w (heard t) (felt (chan p c) m c t)
+    unfolding GoesAt felt heardBy resetsBy if_then_else_
+    felt-goes (One op d) e =
+        split c GoesAt (λ op e. rw (own-eqb c) (own-goes (chan p c) m c w u op (rw (own-eqb c) at e))) (λ op d q e. rw q (other-goes (chan p c) m c w u)) op d e
+    felt-goes (All (CtrlWrite reg v)) e = other-goes (chan p c) m c w u
+    felt-goes (All (CtrlRead reg)) e = other-goes (chan p c) m c w u
+    felt-goes (All (AllTrigger x)) e = edge-goes (chan p c) m c w u x
+    felt-goes (All AllReset) e = no (sym e)
+    felt-goes (All Beyond) e = other-goes (chan p c) m c w u
+
+  module _ (calm : runsOf (chan p c .head .walk .phase) ≡ false) where
+    OutsideAt : Target → Type 0
+    OutsideAt t = resetsBy c p t ≡ false → Outside (chan p c) m (heard t) (felt (chan p c) m c t) (asksBy c p t)
+
+    pub felt-outside : (t : Target) → resetsBy c p t ≡ false → Outside (chan p c) m (heard t) (felt (chan p c) m c t) (asksBy c p t)
+    unfolding OutsideAt felt heardBy resetsBy asksBy if_then_else_
+    felt-outside (One op d) e =
+        split c OutsideAt (λ op e. rw (own-eqb c) (own-outside (chan p c) m c low calm op (rw (own-eqb c) at e))) (λ op d q e. rw q (same-outside (chan p c) m calm)) op d e
+    felt-outside (All (CtrlWrite reg v)) e = same-outside (chan p c) m calm
+    felt-outside (All (CtrlRead reg)) e = same-outside (chan p c) m calm
+    felt-outside (All (AllTrigger x)) e = edge-outside (chan p c) m calm x
+    felt-outside (All AllReset) e = no (sym e)
+    felt-outside (All Beyond) e = same-outside (chan p c) m calm
