@@ -7,7 +7,7 @@ use lib.Dec.{ltb}
 use lib.ListN.{length, take}
 use Rattle.part.specs.State.{wiped}
 use Rattle.part.specs.Facts.{Whole}
-use Rattle.script.specs.Answer.{header}
+use Rattle.answers.specs.Answer.{header}
 use Rattle.runner.specs.declared.lines.Start.{Start}
 use Rattle.runner.specs.Lines.{firstLf, keptOf, keptBytes}
 use Rattle.runner.specs.Text.{Sitting, fed, said, lastSaid, opening}

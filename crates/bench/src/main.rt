@@ -3,9 +3,10 @@ ghost use mathlib.Core.Path.{_≡_};
 ghost use Prim.Native.Nat.{_+_, _*_, _≤_};
 ghost use lib.ListN.{length, take, drop};
 ghost use Rattle.part.specs.State.{wiped};
-ghost use Rattle.script.specs.Answer.{answerRoom};
 ghost use Rattle.script.specs.Grammar.{lineRoom};
+ghost use Rattle.answers.specs.Answer.{answerRoom};
 ghost use Rattle.bench.specs.Talk.{blockSize, sittingOf, bareOf, silenced, Sized, Ready, Heard, Closed, Written, goingOn, Begun, Turned};
+use answers::ANSWER_ROOM;
 use libc::STDERR_FILENO;
 use libc::STDIN_FILENO;
 use libc::STDOUT_FILENO;
@@ -13,7 +14,6 @@ use part::Part;
 use rules::MEMORY;
 use runner::Course;
 use runner::Start;
-use script::ANSWER_ROOM;
 use script::LINE_ROOM;
 
 // The bytes of the block that is read into (`blockSize`).
@@ -97,7 +97,7 @@ fn finish(s: Seat, block: &mut [u8], mem: &mut [u8], out: &mut [u8]) -> Seat
 {
     let line = s.line;
     if 0 < line.len {
-        script::put(block, LINE_ROOM, b"\n");
+        answers::put(block, LINE_ROOM, b"\n");
         return answer_from(s, block, 1, mem, out);
     }
     silent(s)
@@ -152,7 +152,7 @@ fn begin(out: &mut [u8]) -> Bench
     requires { ⌜ answerRoom ≤ length (now out) ⌝ }
     ensures { λ r. ⌜ Begun r wiped (take (r .seat .at) (now (out .exit))) ⌝ }
 {
-    let n = script::write_header(out, 0);
+    let n = answers::write_header(out, 0);
     Bench {
         seat: Seat {
             part: Part::new(),

@@ -1,6 +1,5 @@
 pub mod State
 pub mod Lent
-pub mod Head
 pub mod Range
 pub mod Wires
 pub mod Access

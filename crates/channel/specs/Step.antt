@@ -7,18 +7,16 @@ use lib.ListN.{length}
 use Rattle.laws.specs.Pick.{if_then_else_}
 use Rattle.rules.specs.declared.registers.Place.{Place}
 use Rattle.rules.specs.declared.registers.Place.the-variants.{Here, Elsewhere}
-use Rattle.sequence.specs.declared.wires.Event.{Event}
 use Rattle.rules.specs.Numbers.{bufferSize, done, nowhere, outOfRange}
 use Rattle.rules.specs.Registers.{placeOf}
-use Rattle.sequence.specs.declared.wires.Turn.{Turn}
-use Rattle.sequence.specs.Wires.{turnOf}
-use Rattle.channel.specs.declared.state.Head.{Head}
+use Rattle.rules.specs.declared.wires.Event.{Event}
+use Rattle.steps.specs.declared.map.Op.{Op}
+use Rattle.steps.specs.declared.map.Op.the-variants.{Write, Read, Wire}
+use Rattle.head.specs.State.{refused}
+use Rattle.head.specs.Head.{turnAt}
 use Rattle.channel.specs.declared.state.Channel.{Channel}
 use Rattle.channel.specs.declared.state.Stepped.{Stepped}
-use Rattle.channel.specs.declared.step.Op.{Op}
-use Rattle.channel.specs.declared.step.Op.the-variants.{Write, Read, Wire}
-use Rattle.channel.specs.State.{Served, on, refused, leaving, guarded}
-use Rattle.channel.specs.Head.{framecntOf}
+use Rattle.channel.specs.State.{Served, on, leaving, guarded}
 use Rattle.channel.specs.Range.{inRange}
 use Rattle.channel.specs.Access.{putOf, readOf}
 use Rattle.channel.specs.Wires.{turned}
@@ -31,10 +29,6 @@ writeAt c m Elsewhere v = leaving m (on c (refused (c .head) nowhere))
 unfoldable pub readAt : Channel → List ℕ → Place → Served
 readAt c m (Here reg) = readOf c m reg
 readAt c m Elsewhere = leaving m (on c (refused (c .head) nowhere))
-
--- what event e comes to
-abbrev pub turnAt : Head → Event → Turn
-turnAt h e = turnOf (h .walk .phase) (h .regs .te) (framecntOf h) e
 
 -- no. 1: channel above 2
 unfoldable pub eventAt : Channel → List ℕ → ℕ → Event → Served

@@ -5,8 +5,10 @@ use mathlib.Core.List.{List}
 use lib.ListN.{getD, set, replicate}
 use Rattle.laws.specs.Pick.{if_then_else_}
 use Rattle.rules.specs.declared.state.Phase.the-variants.{Address, Sending}
-use Rattle.sequence.specs.declared.wires.Action.{Action}
-use Rattle.sequence.specs.declared.wires.Action.the-variants.{S, D, A, Np, P}
+use Rattle.rules.specs.Numbers.{notBegun, underway, doneStatus, addressRefused, dataRefused, pastBuffer, notAwaited}
+use Rattle.rules.specs.Tables.{startOf, fitting, readsOf, firstSent, marked}
+use Rattle.rules.specs.declared.wires.Action.{Action}
+use Rattle.rules.specs.declared.wires.Action.the-variants.{S, D, A, Np, P}
 use Rattle.sequence.specs.declared.wires.Turn.{Turn}
 use Rattle.sequence.specs.declared.wires.Turn.the-variants.{Unawaited, AckAddress, AckSending, NackAddress, NackSending, Receive, Begin, Late, End, Fault as Faulty}
 use Rattle.sequence.specs.declared.wires.Move.{Move}
@@ -17,16 +19,15 @@ use Rattle.sequence.specs.declared.wires.Tail.{Tail}
 use Rattle.sequence.specs.declared.wires.Tail.the-variants.{Plain, Nacked}
 use Rattle.sequence.specs.declared.wires.Beginning.{Beginning}
 use Rattle.sequence.specs.declared.wires.Beginning.the-variants.{Empty, Unfit, Fit}
-use Rattle.sequence.specs.declared.wires.Edge.{Edge}
+use Rattle.rules.specs.declared.wires.Edge.{Edge}
 use Rattle.sequence.specs.declared.wires.Beat.{Beat}
 use Rattle.sequence.specs.declared.wires.Beat.the-variants.{Quiet, Begin as BeginBeat, Late as LateBeat}
-use Rattle.rules.specs.Numbers.{notBegun, underway, doneStatus, addressRefused, dataRefused, pastBuffer, notAwaited}
-use Rattle.rules.specs.Tables.{startOf, fitting, readsOf, firstSent, marked}
 use Rattle.sequence.specs.Wires.{beginningOf, reachOf, moveOf, nextOf, stopBy, againBy, maskedOf, edgeBeat}
+use Rattle.head.specs.State.{plain, refused, acted}
+use Rattle.head.specs.Head.{haltOf, inPhase, idled, frameEnded, stopped, clocked, noted, failed, lateBy, faulted}
 use Rattle.channel.specs.declared.state.Channel.{Channel}
 use Rattle.channel.specs.declared.state.Stepped.{Stepped}
-use Rattle.channel.specs.State.{Served, on, plain, refused, acted, leaving, countOf, withHead, withStatus, withCounts}
-use Rattle.channel.specs.Head.{haltOf, inPhase, idled, frameEnded, stopped, clocked, noted, failed, lateBy, faulted}
+use Rattle.channel.specs.State.{Served, on, leaving, countOf, withHead, withStatus, withCounts}
 
 -- ---- words for transaction n
 

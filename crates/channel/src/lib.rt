@@ -5,10 +5,7 @@ mod state;
 mod step;
 mod wires;
 
-pub use state::Answer;
 pub use state::Channel;
-pub use state::Head;
-pub use state::Headed;
-pub use state::Settings;
 pub use state::Stepped;
-pub use step::Op;
+pub use step::serve_lent;
+pub use wires::trigger_lent;

@@ -10,16 +10,8 @@ impl Channel {
         let h = self.head;
         let w = h.walk;
         let phase = w.phase;
-        if rules::pointers_in(h.ptrs) {
-            if rules::registers_in(self.tranconfig[0], h.regs.transel, h.regs.intmsk) {
-                if rules::walk_in(w, h.regs.te, h.settings.framecnt) {
-                    rules::frame_in(phase, &self.slatable, &self.tranconfig, &self.bytecount)
-                } else {
-                    false
-                }
-            } else {
-                false
-            }
+        if h.in_range(self.tranconfig[0]) {
+            bounds::frame_in(phase, &self.slatable, &self.tranconfig, &self.bytecount)
         } else {
             false
         }

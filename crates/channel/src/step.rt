@@ -1,27 +1,22 @@
 // One step of a single channel: a write, a read, or an event of the wires.
 ghost use mathlib.Core.Path.{_≡_};
-ghost use Rattle.rules.specs.Numbers.{bufferSize};
 ghost use Rattle.channel.specs.State.{leaving};
 ghost use Rattle.channel.specs.Lent.{lent, found, leaves};
-ghost use Rattle.channel.specs.Step.{turnAt, eventAt, servedBy, rangeNumber, stepOf, bytesAfter};
+ghost use Rattle.channel.specs.Step.{eventAt, servedBy, rangeNumber, stepOf, bytesAfter};
 ghost use Rattle.channel.specs.Facts.{Accepted};
+use crate::access::read;
+use crate::access::write;
 use crate::state::Channel;
-use crate::state::Head;
-use crate::state::Headed;
 use crate::state::Stepped;
+use crate::wires::turn;
+use head::Head;
+use head::Headed;
 use rules::BUFFER;
 use rules::DONE;
+use rules::Event;
 use rules::NOWHERE;
 use rules::OUT_OF_RANGE;
-use sequence::Event;
-use sequence::Turn;
-
-// A step of a single channel: a write of a byte at an address, a read at an address, or what its wires did.
-pub enum Op {
-    Write(u8, u8),
-    Read(u8),
-    Wire(Event),
-}
+use steps::Op;
 
 // No. 9, or 0: of a memory of this length, and a record that is in range or not.
 fn range_number(len: usize, ok: bool) -> u8
@@ -34,60 +29,50 @@ fn range_number(len: usize, ok: bool) -> u8
     }
 }
 
-impl Head {
-    fn turn_at(self, e: Event) -> Turn
-        ensures { λ r. ⌜ r ≡ turnAt self e ⌝ }
-    {
-        let w = self.walk;
-        let p = w.phase;
-        sequence::turn_of(p, self.regs.te, self.settings.framecnt, e)
+fn event_at(
+    h: Head,
+    sla: &[u8; 64],
+    lens: &[u8; 65],
+    status: &mut [u8; 64],
+    counts: &mut [u8; 64],
+    mem: &mut [u8],
+    number: u8,
+    e: Event,
+) -> Headed
+    requires { ⌜ Accepted (lent h sla lens status counts) (now mem) ⌝ }
+    ensures { λ r. ⌜ leaves r sla lens status counts mem ≡ eventAt (found h sla lens status counts) (now (mem .entry)) number e ⌝ }
+{
+    if 2 < number {
+        return h.answer(NOWHERE);
     }
+    let t = h.turn_at(e);
+    turn(h, sla, lens, status, counts, mem, t)
+}
 
-    fn event_at<'a>(
-        self,
-        sla: &'a [u8; 64],
-        lens: &'a [u8; 65],
-        status: &'a mut [u8; 64],
-        counts: &'a mut [u8; 64],
-        mem: &'a mut [u8],
-        number: u8,
-        e: Event,
-    ) -> Headed
-        requires { ⌜ Accepted (lent self sla lens status counts) (now mem) ⌝ }
-        ensures { λ r. ⌜ leaves r sla lens status counts mem ≡ eventAt (found self sla lens status counts) (now (mem .entry)) number e ⌝ }
-    {
-        if 2 < number {
-            return self.answer(NOWHERE);
+// A step of a channel that is in range, over its tables and bytes: what `Channel::serve` does, without a copy of a table.
+pub fn serve_lent(
+    h: Head,
+    sla: &mut [u8; 64],
+    lens: &mut [u8; 65],
+    status: &mut [u8; 64],
+    counts: &mut [u8; 64],
+    number: u8,
+    mem: &mut [u8],
+    op: Op,
+) -> Headed
+    requires { ⌜ Accepted (lent h sla lens status counts) (now mem) ⌝ }
+    ensures { λ r. ⌜ leaves r sla lens status counts mem ≡ servedBy (found h sla lens status counts) (now (mem .entry)) number op ⌝ }
+{
+    match op {
+        Op::Write(a, v) => {
+            let place = rules::place_of(number, a);
+            write(h, sla, lens, status, counts, mem, place, v)
         }
-        let t = self.turn_at(e);
-        self.turn(sla, lens, status, counts, mem, t)
-    }
-
-    // A step of a channel that is in range, over its tables and bytes: what `Channel::serve` does, without a copy of a table.
-    pub fn serve_lent<'a>(
-        self,
-        sla: &'a mut [u8; 64],
-        lens: &'a mut [u8; 65],
-        status: &'a mut [u8; 64],
-        counts: &'a mut [u8; 64],
-        number: u8,
-        mem: &'a mut [u8],
-        op: Op,
-    ) -> Headed
-        requires { ⌜ Accepted (lent self sla lens status counts) (now mem) ⌝ }
-        ensures { λ r. ⌜ leaves r sla lens status counts mem ≡ servedBy (found self sla lens status counts) (now (mem .entry)) number op ⌝ }
-    {
-        match op {
-            Op::Write(a, v) => {
-                let place = rules::place_of(number, a);
-                self.write(sla, lens, status, counts, mem, place, v)
-            }
-            Op::Read(a) => {
-                let place = rules::place_of(number, a);
-                self.read(sla, lens, status, counts, mem, place)
-            }
-            Op::Wire(e) => self.event_at(sla, lens, status, counts, mem, number, e),
+        Op::Read(a) => {
+            let place = rules::place_of(number, a);
+            read(h, sla, lens, status, counts, mem, place)
         }
+        Op::Wire(e) => event_at(h, sla, lens, status, counts, mem, number, e),
     }
 }
 
@@ -102,7 +87,8 @@ impl Channel {
         let mut status = self.status;
         let mut counts = self.bytecount;
         let h = self.head;
-        let r = h.serve_lent(
+        let r = serve_lent(
+            h,
             &mut sla,
             &mut lens,
             &mut status,

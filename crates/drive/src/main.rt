@@ -2,13 +2,13 @@
 // script writes it, and the answer's number, value and action.
 ghost use Prim.Native.Nat.{_≤_};
 ghost use lib.ListN.{length};
-use channel::Answer;
 use channel::Channel;
-use channel::Op;
+use head::Answer;
 use libc::STDOUT_FILENO;
+use rules::Action;
 use rules::BUFFER;
-use sequence::Action;
-use sequence::Event;
+use rules::Event;
+use steps::Op;
 
 // ---- what is printed
 

@@ -23,18 +23,18 @@ use Rattle.sequence.specs.declared.wires.Beginning.the-variants.{Empty, Unfit, 
 use Rattle.sequence.specs.declared.wires.Turn.{Turn}
 use Rattle.sequence.specs.declared.wires.Turn.the-variants.{Unawaited, AckAddress, AckSending, Receive, NackAddress, NackSending, Begin as BeginTurn, Late, End, Fault as Faulty}
 use Rattle.sequence.specs.Wires.{askOf, beginningOf, edgeBeat}
+use Rattle.steps.specs.declared.map.Op.{Op}
+use Rattle.steps.specs.declared.map.Op.the-variants.{Write, Read, Wire}
+use Rattle.steps.specs.declared.map.Target.{Target}
+use Rattle.steps.specs.declared.map.Target.the-variants.{One, All}
+use Rattle.steps.specs.declared.map.Wide.{Wide}
+use Rattle.steps.specs.declared.map.Wide.the-variants.{CtrlWrite, CtrlRead, AllTrigger, AllReset, Beyond}
+use Rattle.steps.specs.Keys.{ctrlpresetOf}
+use Rattle.head.specs.Access.{dataPlace, teAfter}
+use Rattle.head.specs.Head.{turnAt}
 use Rattle.channel.specs.declared.state.Channel.{Channel}
-use Rattle.channel.specs.declared.step.Op.{Op}
-use Rattle.channel.specs.declared.step.Op.the-variants.{Write, Read, Wire}
-use Rattle.channel.specs.Access.{dataPlace, teAfter}
 use Rattle.channel.specs.State.{countOf}
-use Rattle.channel.specs.Step.{turnAt}
-use Rattle.part.specs.declared.map.Target.{Target}
-use Rattle.part.specs.declared.map.Target.the-variants.{One, All}
-use Rattle.part.specs.declared.map.Wide.{Wide}
-use Rattle.part.specs.declared.map.Wide.the-variants.{CtrlWrite, CtrlRead, AllTrigger, AllReset, Beyond}
 use Rattle.part.specs.declared.state.Part.{Part}
-use Rattle.part.specs.Registers.{ctrlpresetOf}
 use Rattle.part.specs.State.{chan}
 use Rattle.frames.specs.Wire.{Heard}
 use Rattle.frames.specs.Wire.Heard.{none, event}

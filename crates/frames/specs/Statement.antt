@@ -12,16 +12,16 @@ use Rattle.laws.specs.Pick.{if_then_else_}
 use Rattle.rules.specs.declared.state.Phase.the-variants.{Idle, Address}
 use Rattle.rules.specs.Numbers.{done}
 use Rattle.rules.specs.Tables.{startOf, sumOf, fitting, readsOf, firstSent}
-use Rattle.sequence.specs.declared.wires.Action.{Action}
-use Rattle.sequence.specs.declared.wires.Action.the-variants.{Nothing, S}
-use Rattle.sequence.specs.declared.wires.Event.{Event}
+use Rattle.rules.specs.declared.wires.Action.{Action}
+use Rattle.rules.specs.declared.wires.Action.the-variants.{Nothing, S}
+use Rattle.rules.specs.declared.wires.Event.{Event}
+use Rattle.steps.specs.declared.map.Step.the-variants.{Wire}
+use Rattle.steps.specs.declared.map.Target.{Target}
+use Rattle.steps.specs.declared.answer.Act.{Act}
+use Rattle.steps.specs.declared.answer.PartAnswer.{PartAnswer}
 use Rattle.channel.specs.declared.state.Channel.{Channel}
 use Rattle.channel.specs.State.{countOf}
 use Rattle.channel.specs.Wires.{slaveOf, lengthOf, bytesOf}
-use Rattle.part.specs.declared.map.Step.the-variants.{Wire}
-use Rattle.part.specs.declared.map.Target.{Target}
-use Rattle.part.specs.declared.state.Act.{Act}
-use Rattle.part.specs.declared.state.PartAnswer.{PartAnswer}
 use Rattle.part.specs.State.{chan, window}
 use Rattle.mixes.specs.Mix.{Machine, ends}
 use Rattle.independent.specs.Statement.{State, Accepted, thePart}

@@ -8,18 +8,18 @@ use lib.ListN.{length}
 use Rattle.rules.specs.declared.state.Phase.the-variants.{Idle, Waiting}
 use Rattle.rules.specs.Access.{overrunOf}
 use Rattle.rules.specs.Registers.{commandOf}
-use Rattle.sequence.specs.declared.wires.Edge.{Edge}
-use Rattle.sequence.specs.declared.wires.Event.the-variants.{Tick}
+use Rattle.rules.specs.declared.wires.Edge.{Edge}
+use Rattle.rules.specs.declared.wires.Event.the-variants.{Tick}
 use Rattle.sequence.specs.Wires.{tickingOf, matchesOf}
-use Rattle.channel.specs.Access.{dataPlace}
-use Rattle.channel.specs.Head.{framecntOf}
+use Rattle.steps.specs.declared.map.Step.{Step}
+use Rattle.steps.specs.declared.map.Step.the-variants.{Write, Wire, Trigger}
+use Rattle.steps.specs.declared.map.Target.{Target}
+use Rattle.steps.specs.declared.answer.PartAnswer.{PartAnswer}
+use Rattle.steps.specs.Map.{targetOf}
+use Rattle.steps.specs.Laws.Map.{in-part}
+use Rattle.head.specs.Access.{dataPlace}
+use Rattle.head.specs.Head.{framecntOf}
 use Rattle.channel.specs.State.{fresh}
-use Rattle.part.specs.declared.map.Step.{Step}
-use Rattle.part.specs.declared.map.Step.the-variants.{Write, Wire, Trigger}
-use Rattle.part.specs.declared.map.Target.{Target}
-use Rattle.part.specs.declared.state.PartAnswer.{PartAnswer}
-use Rattle.part.specs.Map.{targetOf}
-use Rattle.part.specs.Laws.Map.{in-part}
 use Rattle.part.specs.Laws.Range.{accepts-whole, whole-accepts, step-accepted, bytes-accepted}
 use Rattle.part.specs.Laws.Kept.{whole-kept}
 use Rattle.mixes.specs.Mix.{Machine}

@@ -8,15 +8,15 @@
 use Prim.Native.Nat.{ℕ}
 use mathlib.Core.List.{List, _++_}
 use mathlib.Core.Path.{_≡_}
-use Rattle.mixes.specs.Mix.{Mix, Machine, ends, log, only}
-use Rattle.channel.specs.declared.step.Op.{Op}
-use Rattle.part.specs.declared.map.Step.{Step}
-use Rattle.part.specs.declared.map.Target.{Target}
-use Rattle.part.specs.declared.map.Target.the-variants.{One, All}
-use Rattle.part.specs.declared.state.PartAnswer.{PartAnswer}
-use Rattle.part.specs.Map.{targetOf}
+use Rattle.steps.specs.declared.map.Op.{Op}
+use Rattle.steps.specs.declared.map.Step.{Step}
+use Rattle.steps.specs.declared.map.Target.{Target}
+use Rattle.steps.specs.declared.map.Target.the-variants.{One, All}
+use Rattle.steps.specs.declared.answer.PartAnswer.{PartAnswer}
+use Rattle.steps.specs.Map.{targetOf}
 use Rattle.part.specs.Registers.{interruptOf}
 use Rattle.part.specs.Step.{partStep, partBytes}
+use Rattle.mixes.specs.Mix.{Mix, Machine, ends, log, only}
 pub use Rattle.works.specs.State.{State, Accepted}
 
 -- a step of channel c; there is none where the step is one of the whole part

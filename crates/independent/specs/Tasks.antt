@@ -5,8 +5,8 @@ use mathlib.Core.List.{[]}
 use mathlib.Core.Path.{_≡_}
 use lib.Dec.{ltb}
 use Rattle.laws.specs.Pick.{if_then_else_}
+use Rattle.steps.specs.declared.map.Step.{Step}
 use Rattle.mixes.specs.Mix.{Machine}
-use Rattle.part.specs.declared.map.Step.{Step}
 use Rattle.works.specs.Work.{Work, Reply, workDone, workReply}
 use Rattle.independent.specs.Statement.{State, OfChannel, thePart}
 

@@ -1,8 +1,8 @@
 -- DEMAND 3, proved: every accepted state, every list of steps of each channel, every mix of them; and so every list of channels' steps, in any order.
 use mathlib.Core.List.{List}
 use Rattle.laws.specs.Lists.{All}
+use Rattle.steps.specs.declared.map.Step.{Step}
 use Rattle.mixes.specs.Mix.{Mix, OfSome, stepsOf}
-use Rattle.part.specs.declared.map.Step.{Step}
 use Rattle.independent.specs.Statement.{State, Accepted, OfChannel, Independent, thePart}
 use Rattle.independent.specs.Tasks.{Task, TaskOf, theBench}
 use Rattle.independent.specs.Laws.Apart.{part-apart, bench-apart, step-of, task-of}

@@ -3,3 +3,4 @@ pub mod Cases
 pub mod Lists
 pub mod Sets
 pub mod Windows
+pub mod Ascii

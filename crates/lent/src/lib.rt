@@ -1,10 +1,10 @@
 // The step over a record that is lent: thin over the step by value.
 ghost use mathlib.Core.Path.{_≡_};
 ghost use Rattle.channel.specs.Step.{stepOf, bytesAfter};
-use channel::Answer;
 use channel::Channel;
-use channel::Op;
 use channel::Stepped;
+use head::Answer;
+use steps::Op;
 
 // The two fields of what a step gives back, as calls: so the proof of `step_lent` names no field of the record.
 fn channel_of(s: Stepped) -> Channel

@@ -1,5 +1,4 @@
 pub mod State
-pub mod Map
 pub mod Registers
 pub mod Step
 pub mod Facts

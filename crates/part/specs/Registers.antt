@@ -1,14 +1,15 @@
 -- Document 01, 'The part as the processor sees it': CTRLSTATUS, the part's interrupt, and the reads and writes at F0h to FFh.
 use Prim.Native.Nat.{ℕ, _+_}
-use mathlib.Core.Bool.{Bool, true, false}
+use mathlib.Core.Bool.{Bool, false}
 use mathlib.Core.List.{List}
 use Rattle.laws.specs.Pick.{if_then_else_}
 use Rattle.rules.specs.Access.{keyAfter, resetsOf}
-use Rattle.rules.specs.Interrupt.{ctrlKept, pendingOf, pulledBy}
 use Rattle.rules.specs.Numbers.{nowhere, readOnly}
 use Rattle.rules.specs.Registers.{activeOf, weigh}
-use Rattle.part.specs.declared.map.Ctrl.{Ctrl}
-use Rattle.part.specs.declared.map.Ctrl.the-variants.{Ctrlstatus, Ctrlintmsk, Reserved, DeviceId, Ctrlpreset, Nothing, Ctrlrdy}
+use Rattle.interrupt.specs.Interrupt.{ctrlKept, pendingOf, pulledBy}
+use Rattle.steps.specs.declared.map.Ctrl.{Ctrl}
+use Rattle.steps.specs.declared.map.Ctrl.the-variants.{Ctrlstatus, Ctrlintmsk, Reserved, DeviceId, Ctrlpreset, Nothing, Ctrlrdy}
+use Rattle.steps.specs.Keys.{ctrlpresetOf}
 use Rattle.part.specs.declared.state.Part.{Part}
 use Rattle.part.specs.declared.state.PartStepped.{PartStepped}
 use Rattle.part.specs.State.{freshPart, wiped, refusedPart, plainPart, repliedPart, withBe, withMask, withKey, chan}
@@ -22,7 +23,7 @@ pendingAt p c = pendingOf (chan p c .head .flags) (chan p c .head .regs .intmsk)
 abbrev pub activeAt : Part → ℕ → Bool
 activeAt p c = activeOf (chan p c .head .walk .phase)
 
--- INT is pulled (`pulledBy`, crates/rules/specs/Interrupt.antt)
+-- INT is pulled (`pulledBy`, crates/interrupt/specs/Interrupt.antt)
 unfoldable pub interruptOf : Part → Bool
 interruptOf p = pulledBy (p .be) (p .mask) (pendingAt p 0) (pendingAt p 1) (pendingAt p 2)
 
@@ -52,16 +53,6 @@ ctrlWritten p DeviceId v = refusedPart p readOnly
 ctrlWritten p Ctrlpreset v = plainPart p
 ctrlWritten p Nothing v = refusedPart p nowhere
 ctrlWritten p Ctrlrdy v = refusedPart p readOnly
-
--- ---- the key of CTRLPRESET
-abbrev pub ctrlpresetOf : Ctrl → Bool
-ctrlpresetOf Ctrlstatus = false
-ctrlpresetOf Ctrlintmsk = false
-ctrlpresetOf Reserved = false
-ctrlpresetOf DeviceId = false
-ctrlpresetOf Ctrlpreset = true
-ctrlpresetOf Nothing = false
-ctrlpresetOf Ctrlrdy = false
 
 -- writing A5h to CTRLPRESET and then 5Ah resets the whole part; any write elsewhere between forgets the A5h
 unfoldable pub ctrlPut : Part → Ctrl → ℕ → PartStepped

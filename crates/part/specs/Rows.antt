@@ -1,33 +1,33 @@
 -- The part taken apart: its channels' heads and what it has beside its channels, which go by value, and the channels' tables in rows, which are lent.
 use Prim.Native.Nat.{ℕ, _<_}
-use mathlib.Core.Bool.{Bool, false, not}
+use mathlib.Core.Bool.{Bool}
 use mathlib.Core.List.{List, [], _∷_, map}
 use mathlib.Core.Path.{_≡_}
 use denote.Ref.{RefT, now}
 use denote.Triple.Both.{Both}
 use lib.ListN.{length, getD, set}
-use Rattle.laws.specs.Pick.{if_then_else_}
 use Rattle.rules.specs.Numbers.{memorySize}
-use Rattle.sequence.specs.declared.wires.Edge.{Edge}
+use Rattle.rules.specs.declared.wires.Edge.{Edge}
+use Rattle.steps.specs.declared.map.Op.{Op}
+use Rattle.head.specs.declared.state.Head.{Head}
+use Rattle.head.specs.declared.state.Headed.{Headed}
 use Rattle.channel.specs.declared.state.Channel.{Channel}
-use Rattle.channel.specs.declared.state.Head.{Head}
-use Rattle.channel.specs.declared.state.Headed.{Headed}
 use Rattle.channel.specs.declared.state.Stepped.{Stepped}
-use Rattle.channel.specs.declared.step.Op.{Op}
 use Rattle.channel.specs.State.{Served}
 use Rattle.channel.specs.Lent.{joined}
 use Rattle.channel.specs.Step.{servedBy}
 use Rattle.channel.specs.Facts.{Accepted}
 use Rattle.channel.specs.Wires.{triggered}
-use Rattle.part.specs.declared.rows.Common.{Common}
-use Rattle.part.specs.declared.rows.Heads.{Heads}
-use Rattle.part.specs.declared.rows.HeadsStepped.{HeadsStepped}
-use Rattle.part.specs.declared.rows.OneStepped.{OneStepped}
+use Rattle.heads.specs.declared.Common.{Common}
+use Rattle.heads.specs.declared.Heads.{Heads}
+use Rattle.heads.specs.declared.HeadsStepped.{HeadsStepped}
+use Rattle.heads.specs.declared.OneStepped.{OneStepped}
+use Rattle.heads.specs.Heads.{headAt, oneTaken}
 use Rattle.part.specs.declared.state.Part.{Part}
 use Rattle.part.specs.declared.state.PartStepped.{PartStepped}
-use Rattle.part.specs.State.{blank, window, putWindow}
+use Rattle.part.specs.State.{window, putWindow}
 use Rattle.part.specs.Registers.{ctrlstatusOf, interruptOf}
-use Rattle.part.specs.Step.{commonAfter, commonOf, answerAt}
+use Rattle.part.specs.Step.{commonOf}
 use Rattle.part.specs.Facts.{Whole}
 
 -- the tables of all channels: SLATABLE, TRANCONFIG, STATUS and BYTECOUNT, each in a list with a row for each channel
@@ -73,10 +73,6 @@ pub record Holds (p : Part) (h : Heads) (t : Rows) : Type 0 where
   pub three : length (p .channels) ≡ 3
 
 -- ---- PUT TOGETHER
-
--- the head of channel c
-abbrev pub headAt : Heads → ℕ → Head
-headAt h c = getD (h .channels) c (blank .head)
 
 -- the channel of this head and row c of each
 abbrev pub channelIn : Head → Rows → ℕ → Channel
@@ -148,12 +144,6 @@ Shows h r = (t : Rows) → r ≡ ctrlstatusOf (gathered h t)
 abbrev pub Pulls : Heads → Bool → Type 0
 Pulls h r = (t : Rows) → r ≡ interruptOf (gathered h t)
 
--- no channel has TE 1
-unfoldable pub unarmedOf : Heads → Bool
-unarmedOf h =
-    if headAt h 0 .regs .te then false else
-    if headAt h 1 .regs .te then false else not (headAt h 2 .regs .te)
-
 -- ---- a step of channel c, in its own row
 
 -- row c of each is the table of x, and every other row is as it was
@@ -175,20 +165,17 @@ pub record OneReady (h : Head) (t : Rows) (m : List ℕ) (c : ℕ) : Type 0 wher
 abbrev pub servedIn : Head → Rows → List ℕ → ℕ → Op → Served
 servedIn h t m c op = servedBy (channelIn h t c) (window c m) c op
 
--- and what comes of it: the head, what the part has beside its channels, the answer; row c; and the bytes
-abbrev pub oneOf : Common → ℕ → Op → Stepped → OneStepped
-oneOf k c op x = record { head = x .channel .head; common = commonAfter k op (x .answer); answer = answerAt c (x .answer) }
+-- what a step gives back beside the tables
+abbrev pub headedOf : Stepped → Headed
+headedOf x = record { head = x .channel .head; answer = x .answer }
 
+-- what comes of it: what is given back, row c, and the bytes
 pub record OneGives (h : Head) (k : Common) (t : Rows) (m : List ℕ) (c : ℕ) (op : Op) (r : OneStepped) (t′ : Rows) (m′ : List ℕ) : Type 0 where
-  pub given : r ≡ oneOf k c op (servedIn h t m c op .stepped)
+  pub given : r ≡ oneTaken k c op (headedOf (servedIn h t m c op .stepped))
   pub rows : t′ ≡ withRow t c (servedIn h t m c op .stepped .channel)
   pub memory : m′ ≡ putWindow c (servedIn h t m c op .bytes) m
 
--- its head and what is beside the channels are stored, and its answer is the part's
-abbrev pub oneStored : Heads → ℕ → OneStepped → HeadsStepped
-oneStored h c r = record { heads = record { channels = set (h .channels) c (r .head); common = r .common }; answer = r .answer }
-
 -- a trigger edge on channel c
 pub record EdgeGives (h : Head) (t : Rows) (c : ℕ) (edge : Edge) (r : Headed) (t′ : Rows) : Type 0 where
-  pub given : r ≡ record { head = triggered (channelIn h t c) edge .channel .head; answer = triggered (channelIn h t c) edge .answer }
+  pub given : r ≡ headedOf (triggered (channelIn h t c) edge)
   pub rows : t′ ≡ withRow t c (triggered (channelIn h t c) edge .channel)

@@ -2,16 +2,14 @@
 use Prim.Native.Nat.{ℕ}
 use mathlib.Core.Bool.{Bool, false}
 use mathlib.Core.List.{List, [], _∷_}
-use lib.ListN.{getD, set, replicate}
-use Rattle.laws.specs.Pick.{if_then_else_}
+use lib.ListN.{getD, replicate}
 use Rattle.laws.specs.Windows.{windowOf, putWindowOf}
 use Rattle.rules.specs.Numbers.{bufferSize, memorySize, done}
-use Rattle.sequence.specs.declared.wires.Action.{Action}
-use Rattle.sequence.specs.declared.wires.Action.the-variants.{Nothing}
-use Rattle.sequence.specs.Walk.{idle, noFlags}
+use Rattle.steps.specs.declared.answer.Act.{Act}
+use Rattle.steps.specs.Answer.{quiet}
 use Rattle.channel.specs.declared.state.Channel.{Channel}
 use Rattle.channel.specs.State.{fresh}
-use Rattle.part.specs.declared.state.Act.{Act}
+use Rattle.heads.specs.Heads.{blankHead}
 use Rattle.part.specs.declared.state.Part.{Part}
 use Rattle.part.specs.declared.state.PartStepped.{PartStepped}
 
@@ -29,17 +27,6 @@ freshPart = record { channels = fresh ∷ fresh ∷ fresh ∷ []; be = false; ma
 
 abbrev pub told : Part → ℕ → ℕ → List Act → PartStepped
 told p n v acts = record { part = p; answer = record { number = n; value = v; actions = acts } }
-
-abbrev pub quiet : List Act
-quiet = record { action = Nothing } ∷ record { action = Nothing } ∷ record { action = Nothing } ∷ []
-
--- an action where a test holds
-unfoldable pub actIf : Bool → Action → Act
-actIf mine a = if mine then record { action = a } else record { action = Nothing }
-
--- an action of channel c alone
-abbrev pub onlyAt : ℕ → Action → List Act
-onlyAt c a = set quiet c (record { action = a })
 
 -- only a read answered 0 carries a value, else it is 00h; every answer but 0 has no action
 abbrev pub refusedPart : Part → ℕ → PartStepped
@@ -68,14 +55,7 @@ withKey p k = record { channels = p .channels; be = p .be; mask = p .mask; key =
 -- what stands past the third channel, where nothing reads
 abbrev pub blank : Channel
 blank = record {
-  head = record {
-    regs = record { intmsk = 0; transel = 0; tranofs = 0; tp = false; te = false };
-    key = false;
-    settings = record { framecnt = 0; refrate = 0; scll = 0; sclh = 0; mode = 0; timeout = 0 };
-    ptrs = record { sla = 0; conf = 0; buf = 0; count = 0 };
-    flags = noFlags;
-    walk = idle;
-  };
+  head = blankHead;
   slatable = [];
   tranconfig = [];
   status = [];

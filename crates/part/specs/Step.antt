@@ -5,47 +5,31 @@ use mathlib.Core.List.{List, [], _∷_, map}
 use lib.Dec.{eqb}
 use lib.ListN.{length, set}
 use Rattle.laws.specs.Pick.{if_then_else_}
-use Rattle.rules.specs.Interrupt.{beAfter, maskIn}
 use Rattle.rules.specs.Numbers.{memorySize, done, nowhere, outOfRange}
-use Rattle.sequence.specs.declared.wires.Edge.{Edge}
-use Rattle.channel.specs.declared.state.Answer.{Answer}
+use Rattle.interrupt.specs.Interrupt.{beAfter, maskIn}
+use Rattle.rules.specs.declared.wires.Edge.{Edge}
+use Rattle.steps.specs.declared.map.Op.{Op}
+use Rattle.steps.specs.declared.answer.Act.{Act}
+use Rattle.steps.specs.declared.map.Step.{Step}
+use Rattle.steps.specs.declared.map.Target.{Target}
+use Rattle.steps.specs.declared.map.Wide.{Wide}
+use Rattle.steps.specs.declared.map.Target.the-variants.{One, All}
+use Rattle.steps.specs.declared.map.Wide.the-variants.{CtrlWrite, CtrlRead, AllTrigger, AllReset, Beyond}
+use Rattle.steps.specs.Map.{targetOf}
 use Rattle.channel.specs.declared.state.Channel.{Channel}
 use Rattle.channel.specs.declared.state.Stepped.{Stepped}
-use Rattle.channel.specs.declared.step.Op.{Op}
-use Rattle.channel.specs.declared.step.Op.the-variants.{Write, Read, Wire}
 use Rattle.channel.specs.Range.{inRange}
 use Rattle.channel.specs.State.{Served}
 use Rattle.channel.specs.Step.{servedBy}
 use Rattle.channel.specs.Wires.{triggered}
-use Rattle.part.specs.declared.state.Act.{Act}
+use Rattle.heads.specs.Heads.{commonAfter, answerAt}
+use Rattle.heads.specs.declared.Common.{Common}
 use Rattle.part.specs.declared.state.Part.{Part}
-use Rattle.part.specs.declared.state.PartAnswer.{PartAnswer}
 use Rattle.part.specs.declared.state.PartStepped.{PartStepped}
-use Rattle.part.specs.declared.rows.Common.{Common}
-use Rattle.part.specs.declared.map.Step.{Step}
-use Rattle.part.specs.declared.map.Target.{Target}
-use Rattle.part.specs.declared.map.Wide.{Wide}
-use Rattle.part.specs.declared.map.Target.the-variants.{One, All}
-use Rattle.part.specs.declared.map.Wide.the-variants.{CtrlWrite, CtrlRead, AllTrigger, AllReset, Beyond}
-use Rattle.part.specs.State.{freshPart, wiped, told, refusedPart, plainPart, onlyAt, chan, window, putWindow}
-use Rattle.part.specs.Map.{targetOf}
+use Rattle.part.specs.State.{freshPart, wiped, told, refusedPart, plainPart, chan, window, putWindow}
 use Rattle.part.specs.Registers.{ctrlRead, ctrlPut, ctrlStore}
 
 -- ---- a step of channel c
-
--- any write elsewhere forgets CTRLPRESET's A5h; a read or an event does not
-abbrev pub keyKept : Op → Bool → Bool
-keyKept (Write a v) key = false
-keyKept (Read a) key = key
-keyKept (Wire e) key = key
-
--- what channel c's answer a is to the part: BE and the key of CTRLPRESET after it
-abbrev pub commonAfter : Common → Op → Answer → Common
-commonAfter k op a = record { be = beAfter (k .be) (a .number); mask = k .mask; key = keyKept op (k .key) }
-
--- and the part's answer: its number, its value and its action
-abbrev pub answerAt : ℕ → Answer → PartAnswer
-answerAt c a = record { number = a .number; value = a .value; actions = onlyAt c (a .action) }
 
 -- the part with a record of channel c, and with what it has beside its channels
 abbrev pub oneAfter : Part → ℕ → Channel → Common → Part

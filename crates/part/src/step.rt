@@ -3,26 +3,18 @@ ghost use mathlib.Core.Bool.{true};
 ghost use mathlib.Core.Path.{_≡_};
 ghost use Prim.Native.Nat.{_<_};
 ghost use Rattle.part.specs.Registers.{interruptOf};
-ghost use Rattle.part.specs.Step.{keyKept, channelsIn, partIn, accepts, partStep, partBytes};
+ghost use Rattle.part.specs.Step.{channelsIn, partIn, accepts, partStep, partBytes};
 ghost use Rattle.part.specs.Facts.{Whole};
-use crate::map::Step;
+use crate::rows::advance;
+use crate::rows::gather;
+use crate::rows::interrupt_level;
 use crate::rows::spread;
 use crate::state::Part;
 use crate::state::PartStepped;
-use channel::Op;
+use interrupt::mask_in;
 use rules::MEMORY;
 use rules::OUT_OF_RANGE;
-use rules::mask_in;
-
-pub(crate) fn key_kept(op: Op, key: bool) -> bool
-    ensures { λ r. ⌜ r ≡ keyKept op key ⌝ }
-{
-    match op {
-        Op::Write(_, _) => false,
-        Op::Read(_) => key,
-        Op::Wire(_) => key,
-    }
-}
+use steps::Step;
 
 impl Part {
     fn channels_in(self) -> bool
@@ -71,11 +63,11 @@ impl Part {
         let mut status = [[0u8; 64]; 3];
         let mut counts = [[0u8; 64]; 3];
         let h = spread(self, &mut sla, &mut lens, &mut status, &mut counts);
-        let r = h.advance(&mut sla, &mut lens, &mut status, &mut counts, mem, s);
+        let r = advance(h, &mut sla, &mut lens, &mut status, &mut counts, mem, s);
         let g = r.heads;
         let answer = r.answer;
         PartStepped {
-            part: g.gather(&sla, &lens, &status, &counts),
+            part: gather(g, &sla, &lens, &status, &counts),
             answer,
         }
     }
@@ -84,7 +76,7 @@ impl Part {
     pub fn interrupt(self) -> bool
         ensures { λ r. ⌜ r ≡ interruptOf self ⌝ }
     {
-        self.heads().interrupt_level()
+        interrupt_level(self.heads())
     }
 
     // One step of the part, at any record and any memory.

@@ -3,12 +3,12 @@ use Prim.Native.Nat.{ℕ}
 use mathlib.Core.Bool.{Bool}
 use mathlib.Core.List.{List}
 use mathlib.Core.Path.{_≡_, ap}
+use Rattle.rules.specs.declared.wires.Edge.{Edge}
+use Rattle.steps.specs.declared.map.Op.{Op}
+use Rattle.head.specs.declared.state.Head.{Head}
+use Rattle.head.specs.declared.state.Headed.{Headed}
 use Rattle.channel.specs.declared.state.Channel.{Channel}
-use Rattle.channel.specs.declared.state.Head.{Head}
-use Rattle.channel.specs.declared.state.Headed.{Headed}
 use Rattle.channel.specs.declared.state.Stepped.{Stepped}
-use Rattle.channel.specs.declared.step.Op.{Op}
-use Rattle.sequence.specs.declared.wires.Edge.{Edge}
 use Rattle.channel.specs.Lent.{joined, rejoined}
 use Rattle.channel.specs.Range.{inRange}
 use Rattle.channel.specs.State.{fresh, leaving}
@@ -31,22 +31,24 @@ apart s =
     let c = s .channel in
     (record { head = c .head; answer = s .answer }, c .slatable, c .tranconfig, c .status, c .bytecount)
 
-pub serve-lent-once : (self : Head) (sla lens status counts : List ℕ) (number : ℕ) (mem : List ℕ) (op : Op)
+pub serve-lent-once : (h : Head) (sla lens status counts : List ℕ) (number : ℕ) (mem : List ℕ) (op : Op)
     → Once (Headed × List ℕ × List ℕ × List ℕ × List ℕ × List ℕ)
     (λ (r, sla′, lens′, status′, counts′, mem′).
-    leaving mem′ (rejoined r sla′ lens′ status′ counts′) ≡ servedBy (joined self sla lens status counts) mem number op)
-serve-lent-once self sla lens status counts number mem op =
-    no-second (λ o h. λ i.
-    let t = apart (h i .stepped) in
-    (t .0, t .1, t .2, t .3, t .4, h i .bytes))
+    leaving mem′ (rejoined r sla′ lens′ status′ counts′) ≡ servedBy (joined h sla lens status counts) mem number op)
+serve-lent-once h sla lens status counts number mem op =
+    no-second (λ o e. λ i.
+    let t = apart (e i .stepped) in
+    (t .0, t .1, t .2, t .3, t .4, e i .bytes))
 
 pub step-once : (self : Channel) (number : ℕ) (mem : List ℕ) (op : Op)
     → Once (Stepped × List ℕ) (λ (r, mem′). (r ≡ stepOf self mem number op) × (mem′ ≡ bytesAfter self mem number op))
 step-once self number mem op = no-second (λ o h. both (h .0) (h .1))
 
 -- ---- wires.rt
-pub trigger-lent-once : (self : Head) (sla lens status counts : List ℕ) (edge : Edge)
-    → Once (Headed × List ℕ × List ℕ × List ℕ × List ℕ)
-    (λ (r, sla′, lens′, status′, counts′).
-    rejoined r sla′ lens′ status′ counts′ ≡ triggered (joined self sla lens status counts) edge)
-trigger-lent-once self sla lens status counts edge = no-second (λ o h. ap apart h)
+pub trigger-lent-once : (h : Head) (sla lens status counts : List ℕ) (edge : Edge)
+    → Once (Headed × List ℕ × List ℕ)
+    (λ (r, status′, counts′). rejoined r sla lens status′ counts′ ≡ triggered (joined h sla lens status counts) edge)
+trigger-lent-once h sla lens status counts edge =
+    no-second (λ o e. λ i.
+    let t = apart (e i) in
+    (t .0, t .3, t .4))

@@ -2,9 +2,9 @@
 use Prim.Native.Nat.{ℕ}
 use mathlib.Core.List.{List}
 use mathlib.Core.Path.{_≡_}
-use Rattle.channel.specs.declared.state.Answer.{Answer}
+use Rattle.steps.specs.declared.map.Op.{Op}
+use Rattle.head.specs.declared.state.Answer.{Answer}
 use Rattle.channel.specs.declared.state.Channel.{Channel}
-use Rattle.channel.specs.declared.step.Op.{Op}
 use Rattle.channel.specs.Step.{stepOf, bytesAfter}
 use Rattle.promises.specs.Promise.{Once, no-second, three}
 

@@ -1,8 +1,14 @@
 pub mod Promise
 pub mod Rules
+pub mod Bounds
+pub mod Interrupt
 pub mod Sequence
+pub mod Steps
+pub mod Head
 pub mod Channel
+pub mod Heads
 pub mod Part
 pub mod Script
+pub mod Answers
 pub mod Lent
 pub mod Runner

@@ -3,28 +3,21 @@ use Prim.Native.Nat.{ℕ}
 use mathlib.Core.Bool.{Bool}
 use mathlib.Core.List.{List, []}
 use mathlib.Core.Path.{_≡_}
-use Rattle.channel.specs.declared.state.Head.{Head}
-use Rattle.channel.specs.declared.step.Op.{Op}
-use Rattle.part.specs.declared.map.Step.{Step}
-use Rattle.part.specs.declared.map.Target.{Target}
-use Rattle.part.specs.declared.map.Wide.{Wide}
-use Rattle.part.specs.declared.rows.Common.{Common}
-use Rattle.part.specs.declared.rows.Heads.{Heads}
-use Rattle.part.specs.declared.rows.HeadsStepped.{HeadsStepped}
-use Rattle.part.specs.declared.rows.OneStepped.{OneStepped}
+use Rattle.steps.specs.declared.map.Op.{Op}
+use Rattle.steps.specs.declared.map.Step.{Step}
+use Rattle.steps.specs.declared.map.Wide.{Wide}
+use Rattle.head.specs.declared.state.Head.{Head}
+use Rattle.heads.specs.declared.Common.{Common}
+use Rattle.heads.specs.declared.Heads.{Heads}
+use Rattle.heads.specs.declared.HeadsStepped.{HeadsStepped}
+use Rattle.heads.specs.declared.OneStepped.{OneStepped}
 use Rattle.part.specs.declared.state.Part.{Part}
 use Rattle.part.specs.declared.state.PartStepped.{PartStepped}
-use Rattle.part.specs.Map.{targetOf}
 use Rattle.part.specs.Registers.{interruptOf}
 use Rattle.part.specs.State.{freshPart}
 use Rattle.part.specs.Step.{allServed, allStored, partIn, partStep, partBytes}
-use Rattle.part.specs.Rows.{Rows, asRows, gathered, Holds, Gives, Pulls, OneGives}
-use Rattle.part.specs.Facts.{InPart}
+use Rattle.part.specs.Rows.{asRows, gathered, Holds, Gives, Pulls, OneGives}
 use Rattle.promises.specs.Promise.{Once, no-second, both}
-
--- ---- map.rt
-pub target-of-once : (s : Step) → Once Target (λ r. (r ≡ targetOf s) × InPart r)
-target-of-once s = no-second (λ r h. h .0)
 
 -- ---- rows.rt
 -- a table of all channels, with a row for each
@@ -38,19 +31,19 @@ spread-once part sla lens status counts =
     let t = h .rows i in
     (h .heads i, t .sla, t .lens, t .status, t .counts))
 
-pub gather-once : (self : Heads) (sla lens status counts : Table)
-    → Once Part (λ r. r ≡ gathered self (asRows sla lens status counts))
-gather-once self sla lens status counts = no-second (λ r h. h)
+pub gather-once : (heads : Heads) (sla lens status counts : Table)
+    → Once Part (λ r. r ≡ gathered heads (asRows sla lens status counts))
+gather-once heads sla lens status counts = no-second (λ r h. h)
 
-pub interrupt-level-once : (self : Heads) → Once Bool (λ r. Pulls self r)
-interrupt-level-once self = no-second (λ r h. h (asRows [] [] [] []))
+pub interrupt-level-once : (heads : Heads) → Once Bool (λ r. Pulls heads r)
+interrupt-level-once heads = no-second (λ r h. h (asRows [] [] [] []))
 
-pub all-once : (self : Heads) (sla lens status counts : Table) (mem : List ℕ) (t : Wide)
+pub all-once : (heads : Heads) (sla lens status counts : Table) (mem : List ℕ) (t : Wide)
     → Once (HeadsStepped × Table × Table × Table × Table × List ℕ)
     (λ (r, sla′, lens′, status′, counts′, mem′).
-    Gives (allServed (gathered self (asRows sla lens status counts)) t) r (asRows sla′ lens′ status′ counts′)
-    × (mem′ ≡ allStored (gathered self (asRows sla lens status counts)) mem t))
-all-once self sla lens status counts mem t =
+    Gives (allServed (gathered heads (asRows sla lens status counts)) t) r (asRows sla′ lens′ status′ counts′)
+    × (mem′ ≡ allStored (gathered heads (asRows sla lens status counts)) mem t))
+all-once heads sla lens status counts mem t =
     no-second (λ o h. λ i.
     let given = h .0 in
     let t = given .holds .rows i in

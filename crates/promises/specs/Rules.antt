@@ -10,15 +10,11 @@ use Rattle.rules.specs.declared.registers.Register.{Register}
 use Rattle.rules.specs.declared.state.Flags.{Flags}
 use Rattle.rules.specs.declared.access.Spot.{Spot}
 use Rattle.rules.specs.declared.state.Phase.{Phase}
-use Rattle.rules.specs.declared.state.Ptrs.{Ptrs}
-use Rattle.rules.specs.declared.state.Walk.{Walk}
 use Rattle.rules.specs.Access.{busyRefusal, pastRefusal, placeRefusal, slaRefusal, confRefusal, spotOf, spotRefusal, dataRefusal, selRefusal}
 use Rattle.rules.specs.Access.{keptIf, rewound, pointedAt, overrunOf, presetOf, keyAfter, resetsOf}
 use Rattle.rules.specs.Facts.{InBuffer, KnownPlace}
-use Rattle.rules.specs.Interrupt.{ctrlKept, pendingOf, pulledBy, beAfter, maskIn}
-use Rattle.rules.specs.Range.{pointersIn, registersIn, walkIn, frameIn}
 use Rattle.rules.specs.Registers.{placeOf, activeOf, bitOf, commandOf, weigh, controlValue, chstatusValue, maskKept}
-use Rattle.rules.specs.Tables.{startOf, fitting, readsOf, firstSent, marked}
+use Rattle.rules.specs.Tables.{startOf, fitting, readsOf, skippedOf, firstSent, marked}
 use Rattle.promises.specs.Promise.{Once, no-second}
 
 -- ---- access.rt
@@ -70,35 +66,6 @@ key-after-once preset v = no-second (λ r h. h)
 pub resets-once : (preset : Bool) (v : ℕ) (key : Bool) → Once Bool (λ r. r ≡ resetsOf preset v key)
 resets-once preset v key = no-second (λ r h. h)
 
--- ---- interrupt.rt
-pub ctrl-kept-once : (v : ℕ) → Once ℕ (λ r. r ≡ ctrlKept v)
-ctrl-kept-once v = no-second (λ r h. h)
-
-pub pending-once : (f : Flags) (mask : ℕ) → Once Bool (λ r. r ≡ pendingOf f mask)
-pending-once f mask = no-second (λ r h. h)
-
-pub pulled-once : (be : Bool) (mask : ℕ) (first second third : Bool) → Once Bool (λ r. r ≡ pulledBy be mask first second third)
-pulled-once be mask first second third = no-second (λ r h. h)
-
-pub be-after-once : (be : Bool) (number : ℕ) → Once Bool (λ r. r ≡ beAfter be number)
-be-after-once be number = no-second (λ r h. h)
-
-pub mask-in-once : (mask : ℕ) → Once Bool (λ r. r ≡ maskIn mask)
-mask-in-once mask = no-second (λ r h. h)
-
--- ---- range.rt
-pub pointers-in-once : (p : Ptrs) → Once Bool (λ r. r ≡ pointersIn p)
-pointers-in-once p = no-second (λ r h. h)
-
-pub registers-in-once : (count transel intmsk : ℕ) → Once Bool (λ r. r ≡ registersIn count transel intmsk)
-registers-in-once count transel intmsk = no-second (λ r h. h)
-
-pub walk-in-once : (w : Walk) (te : Bool) (framecnt : ℕ) → Once Bool (λ r. r ≡ walkIn w te framecnt)
-walk-in-once w te framecnt = no-second (λ r h. h)
-
-pub frame-in-once : (p : Phase) (sla lens counts : List ℕ) → Once Bool (λ r. r ≡ frameIn p sla lens counts)
-frame-in-once p sla lens counts = no-second (λ r h. h)
-
 -- ---- registers.rt
 pub place-of-once : (c a : ℕ) → Once Place (λ r. (r ≡ placeOf c a) × KnownPlace r)
 place-of-once c a = no-second (λ r h. h .0)
@@ -136,6 +103,9 @@ fits-once lens = no-second (λ r h. h)
 
 pub reads-once : (sla : ℕ) → Once Bool (λ r. r ≡ readsOf sla)
 reads-once sla = no-second (λ r h. h)
+
+pub skipped-once : (sla len : ℕ) → Once Bool (λ r. r ≡ skippedOf sla len)
+skipped-once sla len = no-second (λ r h. h)
 
 pub first-sent-once : (sla lens : List ℕ) (from count : ℕ) → Once ℕ (λ r. (r ≡ firstSent sla lens from count) × (from ≤ r) × (r ≤ count))
 first-sent-once sla lens from count = no-second (λ r h. h .0)

@@ -8,13 +8,13 @@ use Rattle.rules.specs.declared.state.Flags.{Flags}
 use Rattle.rules.specs.declared.state.Phase.{Phase}
 use Rattle.rules.specs.declared.state.Walk.{Walk}
 use Rattle.sequence.specs.declared.action.Text.{Text}
-use Rattle.sequence.specs.declared.wires.Action.{Action}
+use Rattle.rules.specs.declared.wires.Action.{Action}
 use Rattle.sequence.specs.declared.wires.Ask.{Ask}
 use Rattle.sequence.specs.declared.wires.Beat.{Beat}
 use Rattle.sequence.specs.declared.wires.Beginning.{Beginning}
-use Rattle.sequence.specs.declared.wires.Edge.{Edge}
+use Rattle.rules.specs.declared.wires.Edge.{Edge}
 use Rattle.sequence.specs.declared.wires.Ending.{Ending}
-use Rattle.sequence.specs.declared.wires.Event.{Event}
+use Rattle.rules.specs.declared.wires.Event.{Event}
 use Rattle.sequence.specs.declared.wires.Fault.{Fault}
 use Rattle.sequence.specs.declared.wires.Move.{Move}
 use Rattle.sequence.specs.declared.wires.Next.{Next}

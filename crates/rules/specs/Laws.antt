@@ -1,5 +1,3 @@
 -- Laws of the definitions, for the proofs of functions and for the layers above. Nothing here needs to be believed: it is proved.
-pub mod Interrupt
 pub mod Access
 pub mod Tables
-pub mod Range

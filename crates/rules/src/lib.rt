@@ -1,11 +1,10 @@
-// The rules of document 01 that need no record of a channel: its enums and parts, and the decisions and loops on registers, the interrupt, tables and the range.
+// The rules of document 01 that need no record of a channel: its enums and parts, and the decisions and loops on registers and tables.
 mod access;
-mod interrupt;
 mod numbers;
-mod range;
 mod registers;
 mod state;
 mod tables;
+mod wires;
 
 pub use access::Spot;
 pub use access::busy_refusal;
@@ -24,11 +23,6 @@ pub use access::rewind;
 pub use access::sel_refusal;
 pub use access::sla_refusal;
 pub use access::spot_refusal;
-pub use interrupt::be_after;
-pub use interrupt::ctrl_kept;
-pub use interrupt::mask_in;
-pub use interrupt::pending;
-pub use interrupt::pulled;
 pub use numbers::ADDRESS_REFUSED;
 pub use numbers::BUFFER;
 pub use numbers::DATA_REFUSED;
@@ -46,10 +40,6 @@ pub use numbers::PAST_TABLE;
 pub use numbers::READ_ONLY;
 pub use numbers::UNDERWAY;
 pub use numbers::UNREADABLE;
-pub use range::frame_in;
-pub use range::pointers_in;
-pub use range::registers_in;
-pub use range::walk_in;
 pub use registers::Command;
 pub use registers::Place;
 pub use registers::Register;
@@ -71,5 +61,9 @@ pub use tables::first_sent;
 pub use tables::fits;
 pub use tables::mark;
 pub use tables::reads;
+pub use tables::skipped;
 pub use tables::start_of;
 pub use tables::wipe;
+pub use wires::Action;
+pub use wires::Edge;
+pub use wires::Event;

@@ -50,7 +50,7 @@ pub fn skipped(sla: u8, len: u8) -> bool
 }
 
 // The first transaction from `from` that is not skipped, or the count.
-pub fn first_sent<'a>(sla: &'a [u8; 64], lens: &'a [u8; 65], from: usize, count: usize) -> usize
+pub fn first_sent(sla: &[u8; 64], lens: &[u8; 65], from: usize, count: usize) -> usize
     requires { ⌜ (from ≤ count) × (count ≤ 64) ⌝ }
     ensures { λ r. ⌜ (r ≡ firstSent (now (sla .entry)) (now (lens .entry)) from count) × (from ≤ r) × (r ≤ count) ⌝ }
 {

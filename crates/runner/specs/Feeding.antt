@@ -4,8 +4,8 @@ use mathlib.Core.List.{List, []}
 use mathlib.Core.Path.{_≡_}
 use lib.ListN.{length, take, drop}
 use Rattle.part.specs.declared.state.Part.{Part}
-use Rattle.script.specs.Answer.{Put, answerRoom}
 use Rattle.script.specs.Grammar.{lineRoom}
+use Rattle.answers.specs.Answer.{Put, answerRoom}
 use Rattle.runner.specs.declared.answering.Course.{Course}
 use Rattle.runner.specs.Run.{start}
 use Rattle.runner.specs.Text.{Desk, Sitting, endedLines, restOf, afterAll, repliesTo}

@@ -1,15 +1,15 @@
 -- What a line does to a part and its memory (`answered`, `afterLine`, Run.antt), by whom it concerns.
 use Prim.Native.Nat.{ℕ, _<_}
 use mathlib.Core.List.{List}
+use Rattle.steps.specs.declared.map.Target.{Target}
+use Rattle.steps.specs.declared.map.Target.the-variants.{One as OneTarget, All as AllTarget}
+use Rattle.steps.specs.Map.{targetOf}
 use Rattle.part.specs.declared.state.Part.{Part}
 use Rattle.part.specs.declared.state.PartStepped.{PartStepped}
-use Rattle.part.specs.declared.map.Target.{Target}
-use Rattle.part.specs.declared.map.Target.the-variants.{One as OneTarget, All as AllTarget}
-use Rattle.part.specs.Map.{targetOf}
 use Rattle.part.specs.Step.{allServed, allStored}
-use Rattle.script.specs.Answer.{noAnswer}
 use Rattle.script.specs.declared.reading.Line.{Line}
 use Rattle.script.specs.declared.reading.Line.the-variants.{Readable, Unreadable}
+use Rattle.answers.specs.Answer.{noAnswer}
 use Rattle.runner.specs.declared.answering.Rest.{Rest}
 use Rattle.runner.specs.declared.answering.Rest.the-variants.{All, Unread}
 use Rattle.runner.specs.declared.answering.Aim.{Aim}

@@ -1,18 +1,18 @@
 -- What a line of the script does: a step of the part, by the rules of demand 3's run (crate independent, `thePart`), with an answer to what can't be read.
 use Prim.Native.Nat.{ℕ}
 use mathlib.Core.List.{List}
-use Rattle.mixes.specs.Mix.{Machine}
-use Rattle.part.specs.declared.map.Target.{Target}
-use Rattle.part.specs.declared.map.Target.the-variants.{All}
-use Rattle.part.specs.declared.map.Wide.the-variants.{Beyond}
+use Rattle.steps.specs.declared.map.Target.{Target}
+use Rattle.steps.specs.declared.map.Target.the-variants.{All}
+use Rattle.steps.specs.declared.map.Wide.the-variants.{Beyond}
+use Rattle.steps.specs.declared.answer.PartAnswer.{PartAnswer}
+use Rattle.steps.specs.Map.{targetOf}
 use Rattle.part.specs.declared.state.Part.{Part}
-use Rattle.part.specs.declared.state.PartAnswer.{PartAnswer}
-use Rattle.part.specs.Map.{targetOf}
+use Rattle.mixes.specs.Mix.{Machine}
 use Rattle.independent.specs.Statement.{State, thePart}
 use Rattle.script.specs.declared.reading.Line.{Line}
 use Rattle.script.specs.declared.reading.Line.the-variants.{Readable, Unreadable}
-use Rattle.script.specs.Answer.{noAnswer}
 use Rattle.script.specs.Grammar.{lineOf}
+use Rattle.answers.specs.Answer.{noAnswer}
 
 -- the state of a part and a memory
 abbrev pub start : Part → List ℕ → State

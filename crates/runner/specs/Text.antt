@@ -6,7 +6,7 @@ use Rattle.laws.specs.Pick.{if_then_else_}
 use Rattle.part.specs.Registers.{interruptOf}
 use Rattle.part.specs.State.{freshPart, wiped}
 use Rattle.independent.specs.Statement.{State}
-use Rattle.script.specs.Answer.{answerLine, header}
+use Rattle.answers.specs.Answer.{answerLine, header}
 use Rattle.runner.specs.Run.{theScript}
 
 -- ---- the lines of some bytes: an LF (10) ends a line

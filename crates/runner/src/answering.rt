@@ -3,19 +3,20 @@ ghost use mathlib.Core.Path.{_≡_};
 ghost use Prim.Native.Nat.{_≤_};
 ghost use lib.Dec.{ltb};
 ghost use lib.ListN.{length};
+ghost use Rattle.steps.specs.Facts.{InPart};
 ghost use Rattle.part.specs.Rows.{rowsIn, rowsLeft, found, Ready, Gives};
-ghost use Rattle.part.specs.Facts.{InPart, Whole};
+ghost use Rattle.part.specs.Facts.{Whole};
 ghost use Rattle.runner.specs.Performing.{aimAt, aimOf, InAim, restServed, restStored};
 ghost use Rattle.runner.specs.Text.{numberAfter};
 ghost use Rattle.runner.specs.Feeding.{Room, Answered};
 use crate::lines::line_end;
-use channel::Op;
-use part::Heads;
-use part::HeadsStepped;
+use heads::Heads;
+use heads::HeadsStepped;
 use part::Part;
-use part::Target;
-use part::Wide;
 use script::Line;
+use steps::Op;
+use steps::Target;
+use steps::Wide;
 
 // How far a block is answered: the part, the number of the last step, the place of the next line in the block, and the output's next free place.
 pub struct Course {
@@ -51,7 +52,7 @@ fn aim_of(line: Line) -> Aim
     ensures { λ r. ⌜ (r ≡ aimOf line) × InAim r ⌝ }
 {
     match line {
-        Line::Readable(s) => aim_at(part::target_of(s)),
+        Line::Readable(s) => aim_at(steps::target_of(s)),
         Line::Unreadable => Aim::Others(Rest::Unread),
     }
 }
@@ -71,10 +72,10 @@ fn perform(
         × (now (mem .exit) ≡ restStored (found heads sla lens status counts) (now (mem .entry)) t) ⌝ }
 {
     match t {
-        Rest::All(w) => heads.all(sla, lens, status, counts, mem, w),
+        Rest::All(w) => part::all(heads, sla, lens, status, counts, mem, w),
         Rest::Unread => HeadsStepped {
             heads,
-            answer: script::unreadable(),
+            answer: answers::unreadable(),
         },
     }
 }
@@ -115,7 +116,7 @@ pub fn answer_lines(s: Course, block: &[u8], mem: &mut [u8], out: &mut [u8]) -> 
     while has_lf(end, block.len()) {
         let l = script::read_line(&block[from..end]);
         let a = aim_of(l);
-        let mut answer = script::unreadable();
+        let mut answer = answers::unreadable();
         match a {
             Aim::One(op, c) => {
                 let i = c as usize;
@@ -148,12 +149,12 @@ pub fn answer_lines(s: Course, block: &[u8], mem: &mut [u8], out: &mut [u8]) -> 
             }
         }
         step = next_number(step);
-        at = script::write_answer(step, answer, heads.interrupt_level(), out, at);
+        at = answers::write_answer(step, answer, part::interrupt_level(heads), out, at);
         from = end + 1;
         end = line_end(block, from);
     }
     Course {
-        part: heads.gather(&sla, &lens, &status, &counts),
+        part: part::gather(heads, &sla, &lens, &status, &counts),
         step,
         from,
         at,

@@ -62,7 +62,7 @@ pub fn put_start(bytes: [u8; LINE_ROOM], n: usize, block: &mut [u8]) -> usize
     ensures { λ r. ⌜ (r ≡ lineRoom - n) × (now (block .exit) ≡ sets (now (block .entry)) r (take n bytes)) × (length (take n bytes) ≡ n) ⌝ }
 {
     let at = LINE_ROOM - n;
-    script::put(block, at, &bytes[..n]);
+    answers::put(block, at, &bytes[..n]);
     at
 }
 

@@ -5,11 +5,11 @@ use mathlib.Core.List.{List, [], _∷_}
 use lib.Dec.{eqb, leb, ltb}
 use lib.ListN.{getD}
 use Rattle.laws.specs.Pick.{if_then_else_}
-use Rattle.part.specs.declared.map.Step.the-variants.{Write, Read, Wire, Trigger, Reset}
-use Rattle.sequence.specs.declared.wires.Edge.the-variants.{Rising, Falling}
-use Rattle.sequence.specs.declared.wires.Event.{Event}
-use Rattle.sequence.specs.declared.wires.Event.the-variants.{Ack, Nack, Byte, Tick, Stop, Sda, Scl, Ill}
-use Rattle.script.specs.Ascii.{ascii}
+use Rattle.laws.specs.Ascii.{ascii}
+use Rattle.rules.specs.declared.wires.Edge.the-variants.{Rising, Falling}
+use Rattle.rules.specs.declared.wires.Event.{Event}
+use Rattle.rules.specs.declared.wires.Event.the-variants.{Ack, Nack, Byte, Tick, Stop, Sda, Scl, Ill}
+use Rattle.steps.specs.declared.map.Step.the-variants.{Write, Read, Wire, Trigger, Reset}
 use Rattle.script.specs.declared.reading.Line.{Line}
 use Rattle.script.specs.declared.reading.Line.the-variants.{Readable, Unreadable}
 

@@ -2,9 +2,9 @@
 ghost use mathlib.Core.Path.{_≡_};
 ghost use Prim.Native.Nat.{_<_};
 ghost use Rattle.script.specs.Grammar.{lineRoom, isHex, hexOf, digitAt, byteAt, suiting, inForm, wireLine, lineOf, edgeLine, eventLine, clockLine, faultLine};
-use part::Step;
-use sequence::Edge;
-use sequence::Event;
+use rules::Edge;
+use rules::Event;
+use steps::Step;
 
 // A line of so many bytes, or more, can't be read: every form is shorter (`lineRoom`).
 pub const LINE_ROOM: usize = 16;

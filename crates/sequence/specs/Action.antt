@@ -4,8 +4,8 @@ use mathlib.Core.List.{[], _∷_}
 use lib.Dec.{ltb}
 use Rattle.laws.specs.Pick.{if_then_else_}
 use Rattle.sequence.specs.declared.action.Text.{Text}
-use Rattle.sequence.specs.declared.wires.Action.{Action}
-use Rattle.sequence.specs.declared.wires.Action.the-variants.{Nothing, S, R, D, C, A, Np, Nr, P}
+use Rattle.rules.specs.declared.wires.Action.{Action}
+use Rattle.rules.specs.declared.wires.Action.the-variants.{Nothing, S, R, D, C, A, Np, Nr, P}
 
 -- upper-case hex: the digits 0 to 9 stand at 48, A to F at 65, which is 55 + 10
 unfoldable pub digitOf : ℕ → ℕ

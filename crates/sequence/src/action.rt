@@ -2,7 +2,7 @@
 ghost use mathlib.Core.Path.{_≡_};
 ghost use Prim.Native.Nat.{_<_, _≤_};
 ghost use Rattle.sequence.specs.Action.{digitOf, oneLetter, twoLetters, oneAndByte, twoAndByte, textOf};
-use crate::wires::Action;
+use rules::Action;
 
 // The first `len` of the bytes are the text, and the others are 0.
 pub struct Text {

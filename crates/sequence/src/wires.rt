@@ -6,7 +6,10 @@ ghost use Rattle.sequence.specs.Wires.{stopAsked, startAsked, leaveAsked
 ghost use Rattle.sequence.specs.Wires.{ackTurn, byteTurn, nackTurn, maskedOf, haltedOf, nextOf, reachOf, moveOf, stopBy};
 ghost use Rattle.sequence.specs.Wires.{tickingOf, beatOf, beatTurn, tickTurn, stopTurn, sdaTurn, sclTurn, turnOf, endingOf, restOf, fldAfter, matchesOf, edgeBeat};
 ghost use Rattle.sequence.specs.Facts.{Ready, Exists};
+use rules::Action;
 use rules::Command;
+use rules::Edge;
+use rules::Event;
 use rules::Phase;
 use rules::bit;
 use rules::first_sent;
@@ -27,31 +30,6 @@ pub enum Beginning {
     Empty,
     Unfit,
     Fit,
-}
-
-// What a channel does on the wires, in document 01's letters.
-pub enum Action {
-    Nothing,
-    S(u8),
-    R(u8),
-    D(u8),
-    C,
-    A,
-    Np,
-    Nr(u8),
-    P,
-}
-
-// What the wires did, or the bench's clock.
-pub enum Event {
-    Ack,
-    Byte(u8),
-    Nack,
-    Tick,
-    Stop,
-    Sda,
-    Scl,
-    Ill,
 }
 
 // What an event comes to in the phase that it meets.
@@ -107,12 +85,6 @@ pub enum Ending {
     Error,
     Sd,
     Wait(u8),
-}
-
-// An edge of the trigger.
-pub enum Edge {
-    Rising,
-    Falling,
 }
 
 // ---- CONTROL
@@ -264,7 +236,7 @@ pub fn next_byte(halt: bool, n: usize, len: usize) -> Next
 }
 
 // How far the walk goes on behind transaction n.
-pub fn reach<'a>(halt: bool, n: usize, sla: &'a [u8; 64], lens: &'a [u8; 65]) -> usize
+pub fn reach(halt: bool, n: usize, sla: &[u8; 64], lens: &[u8; 65]) -> usize
     requires { ⌜ (n < getD (now lens) 0 0) × (getD (now lens) 0 0 ≤ 64) ⌝ }
     ensures { λ r. ⌜ (r ≡ reachOf halt n (now (sla .entry)) (now (lens .entry))) × (n + 1 ≤ r) × (r ≤ 64) ⌝ }
 {

@@ -1,24 +1,26 @@
 -- What the bench sheet is a table of: a model of the part; and the part as one, by `partStep` and `partBytes`, which the promise of `Part::step` cites.
 use Rattle.laws.specs.Pick.{if_then_else_}
 use Rattle.rules.specs.Access.{busyRefusal, pastRefusal, tooMany, placeRefusal, slaRefusal, confRefusal, spotOf, selRefusal, keptIf, rewound, pointedAt, overrunOf, keyAfter, resetsOf}
-use Rattle.rules.specs.Range.{pointersIn, registersIn, countingOf, endedIn, blankOf, recordedIn, walkIn, standing, countedIn, clearFrom, countsIn, frameAt, frameIn}
+use Rattle.bounds.specs.Range.{pointersIn, registersIn, countingOf, endedIn, blankOf, recordedIn, walkIn, standing, countedIn, clearFrom, countsIn, frameAt, frameIn}
 use Rattle.rules.specs.Registers.{settingAt, tableAt, registerAt, statusPlace, registerPlace, placeOf, weigh, controlValue, chstatusValue}
 use Rattle.rules.specs.Tables.{startOf, fitting, skippedOf, sentFrom, markFrom}
 use Rattle.sequence.specs.Walk.{nackFlags, endFlags, endWalk}
 use Rattle.sequence.specs.Wires.{startAsked, stopAsked, askedIn, askOf, beginningOf, haltedOf, reachOf, moveOf, nextOf, maskedOf, tickingOf, tickTurn, turnOf, restOf, endingOf, fldAfter}
-use Rattle.channel.specs.Access.{settingOf, settingSet, readRefusal, readBy, readOf, asked, controlled, refusalOf, writtenBy, writeOf, putOf}
+use Rattle.steps.specs.Map.{channelAt, ctrlAt, writeTarget, readTarget, wireTarget, targetOf}
+use Rattle.steps.specs.declared.map.Step.{Step}
+use Rattle.steps.specs.declared.answer.PartAnswer.{PartAnswer}
+use Rattle.head.specs.Access.{settingOf, settingSet, readRefusal, refusalOf}
+use Rattle.head.specs.Range.{headIn}
+use Rattle.head.specs.Head.{stopped, clocked, failed, frameEnded}
+use Rattle.channel.specs.Access.{readBy, readOf, asked, controlled, writtenBy, writeOf, putOf}
 use Rattle.channel.specs.Range.{inRange}
 use Rattle.channel.specs.State.{guarded}
 use Rattle.channel.specs.Step.{writeAt, readAt, eventAt, servedBy}
-use Rattle.channel.specs.Head.{stopped, clocked, failed, frameEnded}
 use Rattle.channel.specs.Wires.{sentTo, passed, startedBy, started, cleared, beganBy, begun, movedTo, onward, finished}
 use Rattle.channel.specs.Wires.{countedOne, sendOn, ackAddress, receiveOn, received, failedBy, nacked, turned}
-use Rattle.part.specs.Map.{channelAt, ctrlAt, writeTarget, readTarget, wireTarget, targetOf}
 use Rattle.part.specs.Registers.{ctrlRead}
 use Rattle.part.specs.State.{wiped, window, putWindow}
 use Rattle.part.specs.Step.{oneStep, oneBytes, allServed, allStored, partServed, partStored, channelsIn, partIn, accepts, partStep, partBytes}
-use Rattle.part.specs.declared.map.Step.{Step}
-use Rattle.part.specs.declared.state.PartAnswer.{PartAnswer}
 use Rattle.works.specs.State.{State}
 
 -- a model: what a step is answered in a state, and the state after it
@@ -36,7 +38,7 @@ unfolding if_then_else_
     nackFlags endFlags endWalk
     startAsked stopAsked askedIn askOf beginningOf haltedOf reachOf moveOf nextOf maskedOf tickingOf tickTurn turnOf restOf endingOf fldAfter
     settingOf settingSet readRefusal readBy readOf asked controlled refusalOf writtenBy writeOf putOf
-    inRange
+    inRange headIn
     guarded
     writeAt readAt eventAt servedBy
     stopped clocked failed frameEnded

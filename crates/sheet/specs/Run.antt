@@ -2,11 +2,12 @@
 use Prim.Native.Nat.{ℕ}
 use mathlib.Core.List.{List, [], _∷_}
 use mathlib.Core.Path.{_≡_}
-use Rattle.sequence.specs.declared.wires.Action.{Action}
-use Rattle.part.specs.declared.map.Step.{Step}
-use Rattle.part.specs.declared.map.Step.the-variants.{Write, Read}
-use Rattle.part.specs.declared.state.PartAnswer.{PartAnswer}
-use Rattle.part.specs.State.{freshPart, wiped, quiet, onlyAt, chan}
+use Rattle.rules.specs.declared.wires.Action.{Action}
+use Rattle.steps.specs.declared.map.Step.{Step}
+use Rattle.steps.specs.declared.map.Step.the-variants.{Write, Read}
+use Rattle.steps.specs.declared.answer.PartAnswer.{PartAnswer}
+use Rattle.steps.specs.Answer.{quiet, onlyAt}
+use Rattle.part.specs.State.{freshPart, wiped, chan}
 use Rattle.works.specs.State.{State}
 use Rattle.sheet.specs.Model.{Model}
 

@@ -2,10 +2,10 @@
 use mathlib.Core.List.{List, [], _∷_, _++_}
 use mathlib.Core.Path.{refl}
 use lib.ListN.{replicate}
-use Rattle.sequence.specs.declared.wires.Action.the-variants.{S, R, C, A, Np, P}
-use Rattle.sequence.specs.declared.wires.Event.the-variants.{Ack, Nack, Byte, Tick, Stop}
-use Rattle.part.specs.declared.map.Step.the-variants.{Write, Wire, Reset}
 use Rattle.laws.specs.Lists.{All}
+use Rattle.rules.specs.declared.wires.Action.the-variants.{S, R, C, A, Np, P}
+use Rattle.rules.specs.declared.wires.Event.the-variants.{Ack, Nack, Byte, Tick, Stop}
+use Rattle.steps.specs.declared.map.Step.the-variants.{Write, Wire, Reset}
 use Rattle.sheet.specs.Model.{thePart}
 use Rattle.sheet.specs.Run.{Entry, points, Row, Holds, fromReset, does, acts, refuses, writes, reads}
 

@@ -4,14 +4,15 @@ use mathlib.Core.List.{List, [], _∷_}
 use mathlib.Core.Path.{_≡_, refl}
 use native.Mathlib.Omega.{arith}
 use Rattle.laws.specs.Pick.{if_then_else_}
-use Rattle.sequence.specs.declared.wires.Event.the-variants.{Ack, Byte, Stop}
-use Rattle.rules.specs.Range.{pointersIn, registersIn, countingOf, endedIn, blankOf, recordedIn, walkIn, standing, countedIn, clearFrom, countsIn, frameAt, frameIn}
+use Rattle.bounds.specs.Range.{pointersIn, registersIn, countingOf, endedIn, blankOf, recordedIn, walkIn, standing, countedIn, clearFrom, countsIn, frameAt, frameIn}
 use Rattle.rules.specs.Tables.{startOf, fitting, skippedOf, sentFrom}
+use Rattle.rules.specs.declared.wires.Event.the-variants.{Ack, Byte, Stop}
+use Rattle.steps.specs.declared.map.Step.{Step}
+use Rattle.steps.specs.declared.map.Step.the-variants.{Write, Wire}
+use Rattle.steps.specs.declared.answer.PartAnswer.{PartAnswer}
+use Rattle.steps.specs.Map.{wireTarget, targetOf}
+use Rattle.head.specs.Range.{headIn}
 use Rattle.channel.specs.Range.{inRange}
-use Rattle.part.specs.declared.map.Step.{Step}
-use Rattle.part.specs.declared.map.Step.the-variants.{Write, Wire}
-use Rattle.part.specs.declared.state.PartAnswer.{PartAnswer}
-use Rattle.part.specs.Map.{wireTarget, targetOf}
 use Rattle.part.specs.State.{freshPart, wiped}
 use Rattle.part.specs.Step.{channelsIn, partIn, accepts}
 use Rattle.mixes.specs.Mix.{Machine, ends}
@@ -34,7 +35,7 @@ frame model = frameOf (machine model) targetOf 0 (opened model) (Wire 0 Ack ∷ 
 
 -- it is a frame that has just begun
 pub has-begun : Begun 0 (opened thePart)
-unfolding thePart if_then_else_ sentFrom skippedOf accepts partIn channelsIn inRange pointersIn registersIn walkIn endedIn countingOf recordedIn blankOf frameIn
+unfolding thePart if_then_else_ sentFrom skippedOf accepts partIn channelsIn inRange headIn pointersIn registersIn walkIn endedIn countingOf recordedIn blankOf frameIn
     frameAt standing fitting startOf countsIn countedIn clearFrom
 has-begun = record { accepted = refl; number = omega arith; phase = refl; counts = refl }
 

@@ -8,17 +8,17 @@ mod record;
 ghost use Prim.Native.Nat.{_<_, _≤_};
 ghost use lib.ListN.{length};
 use channel::Channel;
-use channel::Op;
 use channel::Stepped;
 use libc::STDIN_FILENO;
 use libc::STDOUT_FILENO;
 use names::Case;
 use part::Part;
 use part::PartStepped;
-use part::Step;
 use record::byte;
+use rules::Edge;
 use script::Line;
-use sequence::Edge;
+use steps::Op;
+use steps::Step;
 
 fn say(text: &[u8]) {
     io::write_all(STDOUT_FILENO, text);

@@ -1,8 +1,8 @@
 // The record of a case, as a channel and in a part; and whether a record was left.
 ghost use Prim.Native.Nat.{_<_};
 use channel::Channel;
-use channel::Head;
-use channel::Settings;
+use head::Head;
+use head::Settings;
 use part::Part;
 use rules::Phase;
 use rules::Ptrs;

@@ -6,13 +6,14 @@ use mathlib.Core.List.{List}
 use lib.Dec.{ltb}
 use lib.ListN.{length}
 use Rattle.laws.specs.Pick.{if_then_else_}
-use Rattle.rules.specs.Interrupt.{beAfter}
-use Rattle.channel.specs.declared.state.Answer.{Answer}
+use Rattle.interrupt.specs.Interrupt.{beAfter}
+use Rattle.steps.specs.declared.answer.PartAnswer.{PartAnswer}
+use Rattle.head.specs.declared.state.Answer.{Answer}
 use Rattle.channel.specs.declared.state.Channel.{Channel}
 use Rattle.channel.specs.Facts.{Accepted}
-use Rattle.part.specs.declared.state.PartAnswer.{PartAnswer}
+use Rattle.heads.specs.Heads.{answerAt}
 use Rattle.part.specs.State.{chan, window, putWindow, refusedPart}
-use Rattle.part.specs.Step.{answerAt, oneAfter, accepts}
+use Rattle.part.specs.Step.{oneAfter, accepts}
 use Rattle.works.specs.State.{State}
 
 -- ---- of one channel

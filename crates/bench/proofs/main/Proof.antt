@@ -6,7 +6,7 @@ use Rattle.bench.specs.Talk.Talk.{begun, more}
 use Rattle.bench.specs.Talk.{blockSize, Ready, Talks}
 use Rattle.bench.specs.declared.How.the-variants.{On}
 use Rattle.part.specs.State.{wiped}
-use Rattle.script.specs.Answer.{answerRoom}
+use Rattle.answers.specs.Answer.{answerRoom}
 use Rattle.script.specs.Grammar.{lineRoom}
 use borrow.Author.Needs.{needs}
 use lib.ListN.{length}

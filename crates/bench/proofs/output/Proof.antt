@@ -1,7 +1,7 @@
 -- `bench::output` meets its contract.
 use Prim.Native.Nat.{ℕ, _*_}
 use Rattle.bench.specs.Talk.{blockSize}
-use Rattle.script.specs.Answer.{answerRoom}
+use Rattle.answers.specs.Answer.{answerRoom}
 use borrow.Author.Needs.{needs}
 use lib.ListN.{length-replicate}
 use Rattle.bench.proofs.output.Statement.{statement}

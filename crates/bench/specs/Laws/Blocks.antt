@@ -13,8 +13,8 @@ use Rattle.part.specs.declared.state.Part.{Part}
 use Rattle.part.specs.State.{freshPart, wiped}
 use Rattle.part.specs.Laws.Kept.{fresh-part-in-range}
 use Rattle.part.specs.Facts.{Whole}
-use Rattle.script.specs.Answer.{Put, textIf, answerRoom, roomy, header}
 use Rattle.script.specs.Grammar.{lineRoom}
+use Rattle.answers.specs.Answer.{Put, textIf, answerRoom, roomy, header}
 use Rattle.runner.specs.declared.answering.Course.{Course}
 use Rattle.runner.specs.declared.lines.Start.{Start}
 use Rattle.runner.specs.Lines.{firstLf, noLine, lengthened, keptOf, keptBytes}

@@ -7,8 +7,8 @@ use native.Mathlib.Omega.{arith}
 use borrow.Author.Tests.{ltb-true}
 use lib.Seq.{take-nil}
 use Rattle.laws.specs.Cases.{false-not-true}
-use Rattle.script.specs.Answer.{header}
 use Rattle.script.specs.Grammar.{lineRoom}
+use Rattle.answers.specs.Answer.{header}
 use Rattle.runner.specs.Text.{Sitting, fed, said, lastSaid, opening, outputOf, endedLines, restOf, afterAll, repliesTo}
 use Rattle.runner.specs.Feeding.{shortened}
 use Rattle.runner.specs.Laws.Text.{fed-split, said-split, output-said}

@@ -17,11 +17,12 @@ use Rattle.rules.specs.Access.{presetOf, keyAfter, resetsOf}
 use Rattle.rules.specs.Laws.Access.{not-past, spot-open, sla-open, conf-open, data-open, sel-open}
 use Rattle.rules.specs.Facts.{Known}
 use Rattle.channel.specs.declared.state.Channel.{Channel}
-use Rattle.channel.specs.declared.state.Headed.{Headed}
-use Rattle.channel.specs.declared.state.Head.{Head}
-use Rattle.channel.specs.State.{Served, fresh, freshHead, zeros, leaving, on, plain, refused, guarded, countOf, withHead, withKey}
-use Rattle.channel.specs.Access.{readRefusal, readBy, readOf, refusalOf, writtenBy, writeOf, putOf}
-use Rattle.channel.specs.Step.{writeAt, readAt}
+use Rattle.head.specs.declared.state.Head.{Head}
+use Rattle.channel.specs.State.{Served, fresh, zeros, leaving, on, guarded, countOf, withHead}
+use Rattle.head.specs.State.{freshHead, plain, refused, withKey}
+use Rattle.head.specs.Access.{readRefusal, refusalOf}
+use Rattle.channel.specs.Access.{writtenBy, writeOf, putOf}
+use Rattle.channel.specs.Step.{writeAt}
 use Rattle.channel.specs.Facts.{Accepted}
 use Rattle.channel.specs.Laws.Range.{range-count, range-sel}
 

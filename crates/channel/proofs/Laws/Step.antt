@@ -13,21 +13,25 @@ use Rattle.rules.specs.declared.registers.Place.{Place}
 use Rattle.rules.specs.declared.registers.Place.the-variants.{Here}
 use Rattle.rules.specs.declared.state.Phase.{Phase}
 use Rattle.rules.specs.declared.state.Phase.the-variants.{Sending, Receiving}
-use Rattle.sequence.specs.declared.wires.Event.{Event}
+use Rattle.rules.specs.declared.wires.Event.{Event}
 use Rattle.sequence.specs.declared.wires.Turn.{Turn}
 use Rattle.rules.specs.Numbers.{bufferSize, done, outOfRange}
 use Rattle.rules.specs.Tables.{readsOf}
-use Rattle.rules.specs.Range.{countedIn, frameAt, frameIn}
-use Rattle.rules.specs.Laws.Range.{stands-of, frame-counted, stands-running}
+use Rattle.bounds.specs.Range.{countedIn, frameAt, frameIn}
+use Rattle.bounds.specs.Laws.Range.{stands-of, frame-counted, stands-running}
 use Rattle.sequence.specs.Laws.Meeting.{Meeting, meeting}
 use Rattle.sequence.specs.Laws.Meeting.Meeting.{unawaited, ack-address, ack-sending, receive, nack-address, nack-sending, begin, late, end, sda, scl, ill}
 use Rattle.rules.specs.Facts.{Known, KnownPlace, Running}
+use Rattle.head.specs.declared.state.Head.{Head}
+use Rattle.head.specs.Range.{headIn}
+use Rattle.head.specs.Laws.Range.{head-count}
 use Rattle.channel.specs.declared.state.Channel.{Channel}
 use Rattle.channel.specs.Range.{inRange}
 use Rattle.channel.specs.declared.state.Stepped.{Stepped}
 use Rattle.channel.specs.State.{Served, leaving, countOf}
-use Rattle.channel.specs.Head.{framecntOf}
-use Rattle.channel.specs.Step.{turnAt, rangeNumber}
+use Rattle.head.specs.Head.{framecntOf}
+use Rattle.head.specs.Head.{turnAt}
+use Rattle.channel.specs.Step.{rangeNumber}
 use Rattle.channel.specs.Facts.{Accepted, Meets}
 use Rattle.channel.specs.Laws.Range.{range-count, range-frame}
 
@@ -36,6 +40,12 @@ unfolding rangeNumber
 accepts c m n e z =
     let a = accepted (eqb (length m) bufferSize) _ outOfRange (omega arith) (sym e ∙ z) in
     record { ranged = accepted (inRange c) done outOfRange (omega arith) (a .1) .0; whole = eqb-true (length m) bufferSize (a .0) }
+
+-- a head that is in range beside a count
+pub ranged-count : (h : Head) (n : ℕ) (b : Bool) → b ≡ headIn h n → b ≡ true → n ≤ 64
+ranged-count h n b e t = head-count h n (sym e ∙ t)
+
+pub ruleset ranged = (ranged-count)
 
 -- what a step leaves, where no byte is changed
 pub keeps : (m : List ℕ) (s t : Stepped) → s ≡ t → leaving m s ≡ leaving m t

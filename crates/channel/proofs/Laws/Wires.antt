@@ -22,8 +22,8 @@ use Rattle.sequence.specs.Facts.{Exists, Ready}
 use Rattle.channel.specs.declared.state.Channel.{Channel}
 use Rattle.channel.specs.declared.state.Stepped.{Stepped}
 use Rattle.channel.specs.State.{countOf, withHead, withStatus, withCounts}
-use Rattle.channel.specs.declared.state.Head.{Head}
-use Rattle.channel.specs.Head.{haltOf, noted}
+use Rattle.head.specs.declared.state.Head.{Head}
+use Rattle.head.specs.Head.{haltOf, noted}
 use Rattle.channel.specs.Facts.{Counting, Meets}
 use Rattle.channel.specs.Wires.{slaveOf, lengthOf, bytesOf, resolved, passed, movedTo, onward, beganBy, begun, countedOne, sendOn, ackSending, failedBy, nacked}
 

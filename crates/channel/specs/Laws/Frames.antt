@@ -12,13 +12,16 @@ use Rattle.laws.specs.Cases.{pick-holds, past, both, on, with}
 use Rattle.rules.specs.declared.state.Phase.{Phase}
 use Rattle.rules.specs.declared.state.Phase.the-variants.{Idle, Address, Sending, Receiving, Stopping, Waiting}
 use Rattle.rules.specs.declared.state.Walk.{Walk}
-use Rattle.sequence.specs.declared.wires.Action.{Action}
-use Rattle.sequence.specs.declared.wires.Event.{Event}
-use Rattle.sequence.specs.declared.wires.Edge.{Edge}
+use Rattle.rules.specs.Tables.{fitting, readsOf, skippedOf, firstSent}
+use Rattle.bounds.specs.Range.{pointersIn, registersIn, countingOf, endedIn, blankOf, recordedIn, walkIn, countedIn, frameAt, frameIn}
+use Rattle.rules.specs.Laws.Tables.{first-from}
+use Rattle.bounds.specs.Laws.Range.{Stands, stands-of, of-stands, frame-counted, first-stands, stands-counted, registers-count}
+use Rattle.rules.specs.declared.wires.Action.{Action}
+use Rattle.rules.specs.declared.wires.Event.{Event}
+use Rattle.rules.specs.declared.wires.Edge.{Edge}
 use Rattle.sequence.specs.declared.wires.Fault.{Fault}
 use Rattle.sequence.specs.declared.wires.Fault.the-variants.{Dae, Cle, Sse}
 use Rattle.sequence.specs.declared.wires.Beat.{Beat}
-use Rattle.sequence.specs.declared.wires.Beat.the-variants.{Quiet, Begin, Late}
 use Rattle.sequence.specs.declared.wires.Turn.{Turn}
 use Rattle.sequence.specs.declared.wires.Move.{Move}
 use Rattle.sequence.specs.declared.wires.Move.the-variants.{Halt, Send}
@@ -29,19 +32,17 @@ use Rattle.sequence.specs.declared.wires.Beginning.{Beginning}
 use Rattle.sequence.specs.declared.wires.Beginning.the-variants.{Empty, Unfit, Fit}
 use Rattle.sequence.specs.declared.wires.Ending.{Ending}
 use Rattle.sequence.specs.declared.wires.Ending.the-variants.{Fe, Error, Sd, Wait}
-use Rattle.rules.specs.Tables.{fitting, readsOf, skippedOf, firstSent}
-use Rattle.rules.specs.Range.{pointersIn, registersIn, countingOf, endedIn, blankOf, recordedIn, walkIn, countedIn, frameAt, frameIn}
 use Rattle.sequence.specs.Wires.{beginningOf, reachOf, moveOf, nextOf, restOf, endingOf, beatOf, turnOf, matchesOf, edgeBeat}
 use Rattle.sequence.specs.Laws.Meeting.{Meeting, meeting}
 use Rattle.sequence.specs.Laws.Meeting.Meeting.{unawaited as unawaited′, ack-address as ack-address′, ack-sending as ack-sending′, receive as receive′}
 use Rattle.sequence.specs.Laws.Meeting.Meeting.{nack-address as nack-address′, nack-sending as nack-sending′, begin as begin′, late as late′, end as end′, sda as sda′, scl as scl′, ill as ill′}
 use Rattle.sequence.specs.Walk.{idle, waiting, feRecorded, endWalk, lateFlags, lateWalk}
-use Rattle.rules.specs.Laws.Tables.{first-from}
-use Rattle.rules.specs.Laws.Range.{Stands, stands-of, of-stands, frame-counted, first-stands, stands-counted, registers-count}
+use Rattle.head.specs.State.{withWalk, withState}
+use Rattle.head.specs.Range.{headIn}
+use Rattle.head.specs.Head.{framecntOf, haltOf, femskOf, idled, endedBy, frameEnded, stopped, clocked, noted, failed, lateBy, faulted}
 use Rattle.channel.specs.declared.state.Channel.{Channel}
 use Rattle.channel.specs.declared.state.Stepped.{Stepped}
-use Rattle.channel.specs.State.{Served, on as beside, countOf, withHead, withWalk, withState}
-use Rattle.channel.specs.Head.{framecntOf, haltOf, femskOf, idled, endedBy, frameEnded, stopped, clocked, noted, failed, lateBy, faulted}
+use Rattle.channel.specs.State.{Served, on as beside, countOf, withHead}
 use Rattle.channel.specs.Range.{inRange}
 use Rattle.channel.specs.Wires.{lengthOf, bytesOf, resolved, passed, sentTo, movedTo, onward, finished, startedBy, started, cleared, beganBy, begun}
 use Rattle.channel.specs.Wires.{byteSent, sendOn, ackAddress, countedOne, ackSending, receiveOn, received, failedBy, nacked, turned, beaten, triggered}
@@ -59,8 +60,8 @@ pub in-of : (c : Channel) → inRange c ≡ true → In c
 in-of c e = (range-pointers c e, range-registers c e, range-walk c e, range-frame c e)
 
 pub of-in : (c : Channel) → In c → inRange c ≡ true
-unfolding inRange
-of-in c h = with _ _ (h .0) (with _ _ (h .1) (with _ _ (h .2) (h .3)))
+unfolding inRange headIn
+of-in c h = with _ _ (with _ _ (h .0) (with _ _ (h .1) (h .2))) (h .3)
 
 abbrev pub Good : Stepped → Type 0
 Good r = In (r .channel)

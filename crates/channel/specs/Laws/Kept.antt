@@ -17,25 +17,26 @@ use Rattle.rules.specs.declared.registers.Register.{Register}
 use Rattle.rules.specs.declared.registers.Register.the-variants.{Status, Control, Chstatus, Intmsk, Slatable, Tranconfig, Data, Transel, Tranofs, Bytecount, Setting, Preset}
 use Rattle.rules.specs.declared.registers.Place.{Place}
 use Rattle.rules.specs.declared.registers.Place.the-variants.{Here, Elsewhere}
-use Rattle.sequence.specs.declared.wires.Event.{Event}
-use Rattle.sequence.specs.declared.wires.Ask.{Ask}
-use Rattle.sequence.specs.declared.wires.Ask.the-variants.{Nothing, Overrun, Begin, Wait, Sto, Seq, Leave}
 use Rattle.rules.specs.Numbers.{bufferSize, done, outOfRange}
 use Rattle.rules.specs.Registers.{activeOf, commandOf, maskKept, placeOf}
 use Rattle.rules.specs.Tables.{startOf}
-use Rattle.rules.specs.Access.{lockedOf, tooMany, keptIf, rewound, atMost, pointedAt, overrunOf, presetOf, keyAfter, resetsOf}
-use Rattle.rules.specs.Range.{pointersIn, registersIn, countingOf, endedIn, blankOf, recordedIn, walkIn, frameIn}
+use Rattle.rules.specs.Access.{lockedOf, tooMany, keptIf, rewound, atMost, pointedAt, overrunOf, presetOf, resetsOf}
+use Rattle.bounds.specs.Range.{pointersIn, registersIn, countingOf, endedIn, blankOf, recordedIn, walkIn, frameIn}
+use Rattle.rules.specs.Laws.Access.{not-busy, not-past, placed, spot-open, sla-open, conf-open, data-open, sel-open}
+use Rattle.bounds.specs.Laws.Range.{points-of, of-points, of-registers, registers-count, registers-sel, registers-mask}
+use Rattle.rules.specs.declared.wires.Event.{Event}
+use Rattle.sequence.specs.declared.wires.Ask.{Ask}
+use Rattle.sequence.specs.declared.wires.Ask.the-variants.{Nothing, Overrun, Begin, Wait, Sto, Seq, Leave}
 use Rattle.sequence.specs.Wires.{startAsked, stopAsked, leaveAsked, askedIn, askOf}
 use Rattle.sequence.specs.Walk.{stoRecorded, seqRecorded}
-use Rattle.rules.specs.Laws.Access.{not-busy, not-past, placed, spot-open, sla-open, conf-open, data-open, sel-open}
-use Rattle.rules.specs.Laws.Range.{points-of, of-points, of-registers, registers-count, registers-sel, registers-mask}
+use Rattle.steps.specs.declared.map.Op.{Op}
+use Rattle.steps.specs.declared.map.Op.the-variants.{Write, Read, Wire}
+use Rattle.head.specs.Head.{framecntOf, stoTaken, seqTaken}
+use Rattle.head.specs.Access.{readRefusal, moded, pointed, dataPlace, teAfter, refusalOf}
 use Rattle.channel.specs.declared.state.Channel.{Channel}
-use Rattle.channel.specs.declared.step.Op.{Op}
-use Rattle.channel.specs.declared.step.Op.the-variants.{Write, Read, Wire}
 use Rattle.channel.specs.State.{Served, fresh, zeros, guarded, withHead}
-use Rattle.channel.specs.Head.{framecntOf, stoTaken, seqTaken}
 use Rattle.channel.specs.Range.{inRange}
-use Rattle.channel.specs.Access.{readRefusal, readBy, readOf, moded, pointed, dataPlace, teAfter, asked, controlled, refusalOf, writtenBy, writeOf, keyed, putOf}
+use Rattle.channel.specs.Access.{readBy, readOf, asked, controlled, writtenBy, writeOf, keyed, putOf}
 use Rattle.channel.specs.Step.{writeAt, readAt, eventAt, servedBy, rangeNumber, outcomeOf, stepOf, bytesAfter}
 use Rattle.channel.specs.Facts.{Accepted}
 use Rattle.channel.specs.Laws.Frames.{In, in-of, of-in, Good, Fine, Runs, In-phase, phase-in, rewalked, zero-ends, waited-in, left-in, begun-in, turn-in}

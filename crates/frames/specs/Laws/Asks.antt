@@ -16,25 +16,25 @@ use Rattle.rules.specs.Access.{keptIf, overrunOf, resetsOf}
 use Rattle.rules.specs.Registers.{tableAt, registerAt, registerPlace, commandOf, placeOf}
 use Rattle.sequence.specs.declared.wires.Ask.{Ask}
 use Rattle.sequence.specs.declared.wires.Ask.the-variants.{Nothing, Overrun, Begin, Wait, Sto, Seq, Leave}
-use Rattle.sequence.specs.declared.wires.Edge.{Edge}
-use Rattle.sequence.specs.declared.wires.Event.{Event}
-use Rattle.sequence.specs.declared.wires.Event.the-variants.{Tick}
+use Rattle.rules.specs.declared.wires.Edge.{Edge}
+use Rattle.rules.specs.declared.wires.Event.{Event}
+use Rattle.rules.specs.declared.wires.Event.the-variants.{Tick}
 use Rattle.sequence.specs.declared.wires.Turn.{Turn}
 use Rattle.sequence.specs.Wires.{startAsked, askedIn, askOf, beatOf, tickingOf, tickTurn, turnOf, matchesOf, edgeBeat}
 use Rattle.sequence.specs.Laws.Meeting.{Meeting, meeting}
 use Rattle.sequence.specs.Laws.Meeting.Meeting.{unawaited as unawaited′, ack-address as ack-address′, ack-sending as ack-sending′, receive as receive′}
 use Rattle.sequence.specs.Laws.Meeting.Meeting.{nack-address as nack-address′, nack-sending as nack-sending′, begin as begin′, late as late′, end as end′, sda as sda′, scl as scl′, ill as ill′}
+use Rattle.steps.specs.declared.map.Op.{Op}
+use Rattle.steps.specs.declared.map.Op.the-variants.{Write, Read, Wire}
+use Rattle.steps.specs.declared.map.Step.the-variants.{Write as WriteStep, Wire as WireStep, Trigger}
+use Rattle.steps.specs.declared.map.Target.{Target}
+use Rattle.steps.specs.declared.map.Target.the-variants.{One, All}
+use Rattle.steps.specs.declared.map.Wide.the-variants.{CtrlWrite, CtrlRead, AllTrigger, AllReset, Beyond}
+use Rattle.steps.specs.Map.{channelAt, writeTarget, wireTarget, targetOf}
+use Rattle.head.specs.Access.{dataPlace, teAfter}
+use Rattle.head.specs.Head.{framecntOf}
 use Rattle.channel.specs.declared.state.Channel.{Channel}
-use Rattle.channel.specs.declared.step.Op.{Op}
-use Rattle.channel.specs.declared.step.Op.the-variants.{Write, Read, Wire}
-use Rattle.channel.specs.Access.{dataPlace, teAfter}
-use Rattle.channel.specs.Head.{framecntOf}
-use Rattle.part.specs.declared.map.Step.the-variants.{Write as WriteStep, Wire as WireStep, Trigger}
-use Rattle.part.specs.declared.map.Target.{Target}
-use Rattle.part.specs.declared.map.Target.the-variants.{One, All}
-use Rattle.part.specs.declared.map.Wide.the-variants.{CtrlWrite, CtrlRead, AllTrigger, AllReset, Beyond}
 use Rattle.part.specs.declared.state.Part.{Part}
-use Rattle.part.specs.Map.{channelAt, writeTarget, wireTarget, targetOf}
 use Rattle.part.specs.State.{chan}
 use Rattle.frames.specs.Deeds.{runsOf, placeResets, opResets, resetsBy, askBegins, askAt, isControl, turnBegins, beatBegins, placeBegins, opBegins, asksBy, beginsBy}
 use Rattle.frames.specs.Laws.Steps.{no, Mild, mild, edge-holds}

@@ -11,22 +11,23 @@ use Rattle.laws.specs.Cases.{pick-holds}
 use Rattle.rules.specs.declared.state.Phase.{Phase}
 use Rattle.rules.specs.declared.state.Phase.the-variants.{Idle, Address, Sending, Receiving, Stopping, Waiting}
 use Rattle.rules.specs.Tables.{readsOf}
-use Rattle.sequence.specs.declared.wires.Event.{Event}
-use Rattle.sequence.specs.declared.wires.Event.the-variants.{Ack, Byte, Stop}
+use Rattle.rules.specs.declared.wires.Event.{Event}
+use Rattle.rules.specs.declared.wires.Event.the-variants.{Ack, Byte, Stop}
 use Rattle.sequence.specs.declared.wires.Next.{Next}
 use Rattle.sequence.specs.declared.wires.Next.the-variants.{Cut, More, Over}
 use Rattle.sequence.specs.declared.wires.Tail.the-variants.{Plain, Nacked}
 use Rattle.sequence.specs.Wires.{turnOf}
+use Rattle.steps.specs.declared.map.Step.the-variants.{Wire}
+use Rattle.steps.specs.declared.map.Target.{Target}
+use Rattle.steps.specs.declared.answer.PartAnswer.{PartAnswer}
+use Rattle.steps.specs.Map.{wireTarget, targetOf}
+use Rattle.head.specs.Head.{framecntOf, stopped, clocked}
+use Rattle.head.specs.Head.{turnAt}
 use Rattle.channel.specs.declared.state.Channel.{Channel}
 use Rattle.channel.specs.declared.state.Stepped.{Stepped}
 use Rattle.channel.specs.State.{Served}
-use Rattle.channel.specs.Head.{framecntOf, stopped, clocked}
 use Rattle.channel.specs.Wires.{slaveOf, byteSent, sendOn, ackAddress, countedOne, ackSending, receiveOn, received, turned}
-use Rattle.channel.specs.Step.{turnAt, eventAt, servedBy}
-use Rattle.part.specs.declared.map.Step.the-variants.{Wire}
-use Rattle.part.specs.declared.map.Target.{Target}
-use Rattle.part.specs.declared.state.PartAnswer.{PartAnswer}
-use Rattle.part.specs.Map.{wireTarget, targetOf}
+use Rattle.channel.specs.Step.{eventAt, servedBy}
 use Rattle.part.specs.Step.{oneStep, partServed}
 use Rattle.part.specs.Laws.Range.{step-accepted}
 use Rattle.mixes.specs.Mix.{Machine}

@@ -13,17 +13,17 @@ use Rattle.rules.specs.declared.state.Phase.{Phase}
 use Rattle.rules.specs.declared.state.Phase.the-variants.{Idle, Address, Sending, Receiving, Stopping, Waiting}
 use Rattle.rules.specs.Tables.{startOf, sumOf, readsOf, firstSent}
 use Rattle.rules.specs.Laws.Tables.{start-next, start-more, first-from}
-use Rattle.sequence.specs.declared.wires.Action.{Action}
-use Rattle.sequence.specs.declared.wires.Action.the-variants.{Nothing, S, R, D, C, A, Np, Nr, P}
+use Rattle.rules.specs.declared.wires.Action.{Action}
+use Rattle.rules.specs.declared.wires.Action.the-variants.{Nothing, S, R, D, C, A, Np, Nr, P}
 use Rattle.sequence.specs.declared.wires.Move.{Move}
 use Rattle.sequence.specs.declared.wires.Move.the-variants.{Halt, Send}
 use Rattle.sequence.specs.declared.wires.Tail.{Tail}
 use Rattle.sequence.specs.declared.wires.Tail.the-variants.{Plain, Nacked}
 use Rattle.sequence.specs.Wires.{moveOf, reachOf, stopBy, againBy}
+use Rattle.head.specs.Head.{haltOf, stopped}
 use Rattle.channel.specs.declared.state.Channel.{Channel}
 use Rattle.channel.specs.declared.state.Stepped.{Stepped}
 use Rattle.channel.specs.State.{on}
-use Rattle.channel.specs.Head.{haltOf, stopped}
 use Rattle.channel.specs.Wires.{slaveOf, passed, sentTo, movedTo, onward, finished}
 use Rattle.frames.specs.Wire.{Watch, addressing, watchAfter, CarriesNext, Carries}
 use Rattle.frames.specs.Deeds.{runsOf}

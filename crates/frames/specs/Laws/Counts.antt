@@ -7,9 +7,9 @@ use native.Mathlib.Omega.{arith}
 use lib.ListN.{length}
 use Rattle.laws.specs.Pick.{if_then_else_}
 use Rattle.laws.specs.Cases.{pick-holds}
+use Rattle.steps.specs.declared.map.Target.{Target}
+use Rattle.steps.specs.declared.answer.PartAnswer.{PartAnswer}
 use Rattle.channel.specs.Wires.{bytesOf}
-use Rattle.part.specs.declared.map.Target.{Target}
-use Rattle.part.specs.declared.state.PartAnswer.{PartAnswer}
 use Rattle.mixes.specs.Mix.{Machine, ends}
 use Rattle.independent.specs.Statement.{State, Accepted}
 use Rattle.frames.specs.Wire.{Watch, spent, endsOf, watchAfter, dataHeard, oneOf, acknowledged}

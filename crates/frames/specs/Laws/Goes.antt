@@ -13,21 +13,22 @@ use Rattle.laws.specs.Cases.{pick-holds, false-not-true}
 use Rattle.rules.specs.declared.state.Phase.{Phase}
 use Rattle.rules.specs.declared.state.Phase.the-variants.{Address, Sending, Receiving}
 use Rattle.rules.specs.Tables.{startOf, sumOf, readsOf}
-use Rattle.rules.specs.Range.{frameAt}
+use Rattle.bounds.specs.Range.{frameAt}
 use Rattle.rules.specs.Laws.Tables.{start-next, start-more}
-use Rattle.rules.specs.Laws.Range.{stands-of}
-use Rattle.sequence.specs.declared.wires.Action.the-variants.{D, A}
-use Rattle.sequence.specs.declared.wires.Event.{Event}
-use Rattle.sequence.specs.declared.wires.Event.the-variants.{Ack, Byte, Nack}
+use Rattle.bounds.specs.Laws.Range.{stands-of}
+use Rattle.rules.specs.declared.wires.Action.the-variants.{D, A}
+use Rattle.rules.specs.declared.wires.Event.{Event}
+use Rattle.rules.specs.declared.wires.Event.the-variants.{Ack, Byte, Nack}
 use Rattle.sequence.specs.declared.wires.Next.{Next}
 use Rattle.sequence.specs.declared.wires.Next.the-variants.{Cut, More, Over}
 use Rattle.sequence.specs.declared.wires.Tail.{Tail}
 use Rattle.sequence.specs.declared.wires.Tail.the-variants.{Plain, Nacked}
 use Rattle.sequence.specs.Wires.{nextOf, stopBy}
+use Rattle.head.specs.State.{acted}
+use Rattle.head.specs.Head.{haltOf, noted, stopped, clocked, failed}
 use Rattle.channel.specs.declared.state.Channel.{Channel}
 use Rattle.channel.specs.declared.state.Stepped.{Stepped}
-use Rattle.channel.specs.State.{Served, leaving, on, countOf, acted, withHead}
-use Rattle.channel.specs.Head.{haltOf, noted, stopped, clocked, failed}
+use Rattle.channel.specs.State.{Served, leaving, on, countOf, withHead}
 use Rattle.channel.specs.Wires.{slaveOf, lengthOf, bytesOf, byteAt, resolved, byteSent, sendOn, ackAddress, countedOne, ackSending, receiveOn, received, failedBy, nacked, finished}
 use Rattle.frames.specs.Wire.{Heard, Watch, watchAfter, costOf, faultOf, endsOf, dataHeard, oneOf, Carries}
 use Rattle.frames.specs.Wire.Heard.{none, event}

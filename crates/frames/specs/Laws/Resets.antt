@@ -11,17 +11,17 @@ use Rattle.laws.specs.Pick.{if_then_else_}
 use Rattle.rules.specs.declared.registers.Place.{Place}
 use Rattle.rules.specs.declared.registers.Place.the-variants.{Here, Elsewhere}
 use Rattle.rules.specs.Registers.{placeOf}
+use Rattle.steps.specs.declared.map.Op.{Op}
+use Rattle.steps.specs.declared.map.Op.the-variants.{Write, Read, Wire}
+use Rattle.steps.specs.declared.map.Target.{Target}
+use Rattle.steps.specs.declared.map.Target.the-variants.{One, All}
+use Rattle.steps.specs.declared.map.Wide.the-variants.{CtrlWrite, CtrlRead, AllTrigger, AllReset, Beyond}
+use Rattle.steps.specs.declared.answer.PartAnswer.{PartAnswer}
 use Rattle.channel.specs.declared.state.Channel.{Channel}
-use Rattle.channel.specs.declared.step.Op.{Op}
-use Rattle.channel.specs.declared.step.Op.the-variants.{Write, Read, Wire}
 use Rattle.channel.specs.Access.{putOf}
 use Rattle.channel.specs.State.{fresh}
 use Rattle.channel.specs.Step.{writeAt, servedBy}
-use Rattle.part.specs.declared.map.Target.{Target}
-use Rattle.part.specs.declared.map.Target.the-variants.{One, All}
-use Rattle.part.specs.declared.map.Wide.the-variants.{CtrlWrite, CtrlRead, AllTrigger, AllReset, Beyond}
 use Rattle.part.specs.declared.state.Part.{Part}
-use Rattle.part.specs.declared.state.PartAnswer.{PartAnswer}
 use Rattle.part.specs.Registers.{ctrlPut}
 use Rattle.part.specs.State.{blank, chan, freshPart}
 use Rattle.part.specs.Step.{oneStep, allServed, partServed}

@@ -18,16 +18,16 @@ use Rattle.rules.specs.declared.registers.Place.the-variants.{Here, Elsewhere}
 use Rattle.rules.specs.Numbers.{nowhere, notAwaited}
 use Rattle.rules.specs.Registers.{placeOf}
 use Rattle.rules.specs.Tables.{fitting, skippedOf, sentFrom}
-use Rattle.sequence.specs.declared.wires.Action.the-variants.{Nothing as NoAction, S}
+use Rattle.rules.specs.declared.wires.Action.the-variants.{Nothing as NoAction, S}
 use Rattle.sequence.specs.declared.wires.Ask.{Ask}
 use Rattle.sequence.specs.declared.wires.Ask.the-variants.{Nothing, Overrun, Begin, Wait, Sto, Seq, Leave}
 use Rattle.sequence.specs.declared.wires.Beat.{Beat}
 use Rattle.sequence.specs.declared.wires.Beat.the-variants.{Quiet, Begin as BeginBeat, Late as LateBeat}
 use Rattle.sequence.specs.declared.wires.Beginning.{Beginning}
 use Rattle.sequence.specs.declared.wires.Beginning.the-variants.{Empty, Unfit, Fit}
-use Rattle.sequence.specs.declared.wires.Edge.{Edge}
-use Rattle.sequence.specs.declared.wires.Event.{Event}
-use Rattle.sequence.specs.declared.wires.Event.the-variants.{Tick}
+use Rattle.rules.specs.declared.wires.Edge.{Edge}
+use Rattle.rules.specs.declared.wires.Event.{Event}
+use Rattle.rules.specs.declared.wires.Event.the-variants.{Tick}
 use Rattle.sequence.specs.declared.wires.Move.{Move}
 use Rattle.sequence.specs.declared.wires.Move.the-variants.{Halt, Send}
 use Rattle.sequence.specs.declared.wires.Turn.{Turn}
@@ -36,14 +36,16 @@ use Rattle.sequence.specs.Wires.{beginningOf, moveOf, beatOf, edgeBeat}
 use Rattle.sequence.specs.Laws.Meeting.{Meeting, meeting}
 use Rattle.sequence.specs.Laws.Meeting.Meeting.{unawaited as unawaited′, ack-address as ack-address′, ack-sending as ack-sending′, receive as receive′}
 use Rattle.sequence.specs.Laws.Meeting.Meeting.{nack-address as nack-address′, nack-sending as nack-sending′, begin as begin′, late as late′, end as end′, sda as sda′, scl as scl′, ill as ill′}
+use Rattle.steps.specs.declared.map.Op.{Op}
+use Rattle.steps.specs.declared.map.Op.the-variants.{Write, Read, Wire}
+use Rattle.head.specs.declared.state.Head.{Head}
+use Rattle.head.specs.State.{plain, refused, answered}
+use Rattle.head.specs.Head.{framecntOf, frameEnded}
+use Rattle.head.specs.Access.{refusalOf}
 use Rattle.channel.specs.declared.state.Channel.{Channel}
-use Rattle.channel.specs.declared.state.Head.{Head}
 use Rattle.channel.specs.declared.state.Stepped.{Stepped}
-use Rattle.channel.specs.declared.step.Op.{Op}
-use Rattle.channel.specs.declared.step.Op.the-variants.{Write, Read, Wire}
-use Rattle.channel.specs.State.{Served, leaving, on, plain, refused, answered, guarded, countOf, withHead}
-use Rattle.channel.specs.Head.{framecntOf, frameEnded}
-use Rattle.channel.specs.Access.{asked, controlled, refusalOf, writtenBy, writeOf, keyed, putOf}
+use Rattle.channel.specs.State.{Served, leaving, on, guarded, countOf, withHead}
+use Rattle.channel.specs.Access.{asked, controlled, writtenBy, writeOf, keyed, putOf}
 use Rattle.channel.specs.Wires.{slaveOf, passed, sentTo, startedBy, started, cleared, beganBy, begun, turned, beaten, triggered}
 use Rattle.channel.specs.Step.{writeAt, readAt, eventAt, servedBy}
 use Rattle.frames.specs.Wire.{Heard, Watch, costOf, dataHeard}

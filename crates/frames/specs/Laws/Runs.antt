@@ -11,14 +11,14 @@ use Rattle.laws.specs.Pick.{if_then_else_}
 use Rattle.laws.specs.Cases.{pick-holds}
 use Rattle.rules.specs.Tables.{startOf, readsOf}
 use Rattle.rules.specs.Laws.Tables.{first-from}
-use Rattle.sequence.specs.declared.wires.Action.{Action}
-use Rattle.sequence.specs.declared.wires.Action.the-variants.{Nothing, S, R, D, C, A, Np, Nr, P}
+use Rattle.rules.specs.declared.wires.Action.{Action}
+use Rattle.rules.specs.declared.wires.Action.the-variants.{Nothing, S, R, D, C, A, Np, Nr, P}
+use Rattle.steps.specs.declared.map.Target.{Target}
+use Rattle.steps.specs.declared.answer.PartAnswer.{PartAnswer}
+use Rattle.steps.specs.Facts.{InPart}
 use Rattle.channel.specs.State.{Served, countOf}
 use Rattle.channel.specs.Wires.{slaveOf, lengthOf, bytesOf}
 use Rattle.channel.specs.Laws.Range.{range-count, range-frame}
-use Rattle.part.specs.declared.map.Target.{Target}
-use Rattle.part.specs.declared.state.PartAnswer.{PartAnswer}
-use Rattle.part.specs.Facts.{InPart}
 use Rattle.part.specs.Step.{partServed, partStored}
 use Rattle.part.specs.Laws.Range.{accepts-whole, chan-in-range}
 use Rattle.mixes.specs.Mix.{Machine, ends}

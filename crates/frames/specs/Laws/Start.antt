@@ -6,10 +6,10 @@ use mathlib.Core.Path.{_≡_, refl, ap}
 use native.Mathlib.Omega.{arith}
 use lib.ListN.{length, getD, replicate, length-replicate}
 use Rattle.rules.specs.declared.state.Phase.{Phase}
+use Rattle.steps.specs.declared.map.Target.{Target}
+use Rattle.steps.specs.declared.answer.PartAnswer.{PartAnswer}
 use Rattle.channel.specs.declared.state.Channel.{Channel}
 use Rattle.channel.specs.Wires.{bytesOf}
-use Rattle.part.specs.declared.map.Target.{Target}
-use Rattle.part.specs.declared.state.PartAnswer.{PartAnswer}
 use Rattle.part.specs.State.{blank}
 use Rattle.mixes.specs.Mix.{Machine}
 use Rattle.independent.specs.Statement.{State}

@@ -20,20 +20,20 @@ use Rattle.rules.specs.declared.registers.Place.the-variants.{Here, Elsewhere}
 use Rattle.rules.specs.Numbers.{nowhere, addressRefused, dataRefused}
 use Rattle.rules.specs.Registers.{activeOf, commandOf, placeOf}
 use Rattle.rules.specs.Access.{lockedOf}
-use Rattle.rules.specs.Range.{frameIn, countedIn}
+use Rattle.bounds.specs.Range.{frameIn, countedIn}
 use Rattle.rules.specs.Tables.{readsOf}
 use Rattle.rules.specs.Laws.Access.{not-busy, sla-open, conf-open, data-open}
-use Rattle.rules.specs.Laws.Range.{frame-counted}
-use Rattle.sequence.specs.declared.wires.Action.the-variants.{Nothing as NoAction}
+use Rattle.bounds.specs.Laws.Range.{frame-counted}
+use Rattle.rules.specs.declared.wires.Action.the-variants.{Nothing as NoAction}
 use Rattle.sequence.specs.declared.wires.Ask.{Ask}
 use Rattle.sequence.specs.declared.wires.Ask.the-variants.{Nothing, Overrun, Begin, Wait as WaitAsk, Sto, Seq, Leave}
 use Rattle.sequence.specs.declared.wires.Beat.{Beat}
 use Rattle.sequence.specs.declared.wires.Beat.the-variants.{Quiet}
-use Rattle.sequence.specs.declared.wires.Edge.{Edge}
+use Rattle.rules.specs.declared.wires.Edge.{Edge}
 use Rattle.sequence.specs.declared.wires.Ending.{Ending}
 use Rattle.sequence.specs.declared.wires.Ending.the-variants.{Fe, Error, Sd, Wait}
-use Rattle.sequence.specs.declared.wires.Event.{Event}
-use Rattle.sequence.specs.declared.wires.Event.the-variants.{Ack, Byte, Nack, Tick, Stop, Sda, Scl, Ill}
+use Rattle.rules.specs.declared.wires.Event.{Event}
+use Rattle.rules.specs.declared.wires.Event.the-variants.{Ack, Byte, Nack, Tick, Stop, Sda, Scl, Ill}
 use Rattle.sequence.specs.declared.wires.Fault.{Fault}
 use Rattle.sequence.specs.declared.wires.Fault.the-variants.{Dae, Cle, Sse}
 use Rattle.sequence.specs.declared.wires.Turn.{Turn}
@@ -43,13 +43,15 @@ use Rattle.sequence.specs.Wires.{stopAsked, askedIn, askOf, beatOf, matchesOf, 
 use Rattle.sequence.specs.Laws.Meeting.{Meeting, meeting}
 use Rattle.sequence.specs.Laws.Meeting.Meeting.{unawaited as unawaited′, ack-address as ack-address′, ack-sending as ack-sending′, receive as receive′}
 use Rattle.sequence.specs.Laws.Meeting.Meeting.{nack-address as nack-address′, nack-sending as nack-sending′, begin as begin′, late as late′, end as end′, sda as sda′, scl as scl′, ill as ill′}
+use Rattle.steps.specs.declared.map.Op.{Op}
+use Rattle.steps.specs.declared.map.Op.the-variants.{Write, Read, Wire}
+use Rattle.head.specs.State.{plain, refused}
+use Rattle.head.specs.Head.{framecntOf, femskOf, lateBy, faulted, frameEnded}
+use Rattle.head.specs.Access.{refusalOf}
 use Rattle.channel.specs.declared.state.Channel.{Channel}
 use Rattle.channel.specs.declared.state.Stepped.{Stepped}
-use Rattle.channel.specs.declared.step.Op.{Op}
-use Rattle.channel.specs.declared.step.Op.the-variants.{Write, Read, Wire}
-use Rattle.channel.specs.State.{Served, leaving, on, plain, refused, guarded, countOf, withHead}
-use Rattle.channel.specs.Head.{framecntOf, femskOf, lateBy, faulted, frameEnded}
-use Rattle.channel.specs.Access.{readBy, readOf, asked, controlled, refusalOf, writtenBy, writeOf, keyed, putOf}
+use Rattle.channel.specs.State.{Served, leaving, on, guarded, countOf, withHead}
+use Rattle.channel.specs.Access.{readBy, readOf, asked, controlled, writtenBy, writeOf, keyed, putOf}
 use Rattle.channel.specs.Wires.{slaveOf, bytesOf, lengthOf, turned, beaten, triggered}
 use Rattle.channel.specs.Step.{writeAt, readAt, eventAt, servedBy}
 use Rattle.frames.specs.Wire.{Heard, Watch, costOf, faultOf, endsOf, dataHeard}

@@ -12,25 +12,29 @@ use lib.Seq.{getD-set-same, getD-set-other, take-at, drop-at, length-take-le}
 use Rattle.laws.specs.Pick.{if_then_else_}
 use Rattle.rules.specs.Access.{keyAfter, resetsOf}
 use Rattle.rules.specs.Numbers.{bufferSize}
-use Rattle.sequence.specs.declared.wires.Action.the-variants.{Nothing}
-use Rattle.sequence.specs.declared.wires.Edge.{Edge}
+use Rattle.rules.specs.declared.wires.Action.the-variants.{Nothing}
+use Rattle.rules.specs.declared.wires.Edge.{Edge}
+use Rattle.steps.specs.declared.map.Op.{Op}
+use Rattle.steps.specs.declared.map.Ctrl.{Ctrl}
+use Rattle.steps.specs.declared.map.Ctrl.the-variants.{Ctrlstatus, Ctrlintmsk, Reserved, DeviceId, Ctrlpreset, Nothing as Nowhere, Ctrlrdy}
+use Rattle.steps.specs.declared.map.Target.{Target}
+use Rattle.steps.specs.declared.map.Target.the-variants.{One, All}
+use Rattle.steps.specs.declared.map.Wide.{Wide}
+use Rattle.steps.specs.declared.map.Wide.the-variants.{CtrlWrite, CtrlRead, AllTrigger, AllReset, Beyond}
+use Rattle.steps.specs.declared.answer.Act.{Act}
+use Rattle.steps.specs.Facts.{InPart}
+use Rattle.steps.specs.Keys.{ctrlpresetOf}
+use Rattle.steps.specs.Answer.{quiet}
+use Rattle.head.specs.State.{plain}
 use Rattle.channel.specs.declared.state.Channel.{Channel}
-use Rattle.channel.specs.declared.step.Op.{Op}
-use Rattle.channel.specs.State.{Served, leaving, on, plain}
+use Rattle.channel.specs.State.{Served, leaving, on}
 use Rattle.channel.specs.Step.{servedBy}
 use Rattle.channel.specs.Wires.{triggered}
-use Rattle.part.specs.declared.map.Ctrl.{Ctrl}
-use Rattle.part.specs.declared.map.Ctrl.the-variants.{Ctrlstatus, Ctrlintmsk, Reserved, DeviceId, Ctrlpreset, Nothing as Nowhere, Ctrlrdy}
-use Rattle.part.specs.declared.map.Target.{Target}
-use Rattle.part.specs.declared.map.Target.the-variants.{One, All}
-use Rattle.part.specs.declared.map.Wide.{Wide}
-use Rattle.part.specs.declared.map.Wide.the-variants.{CtrlWrite, CtrlRead, AllTrigger, AllReset, Beyond}
-use Rattle.part.specs.declared.state.Act.{Act}
 use Rattle.part.specs.declared.state.Part.{Part}
 use Rattle.part.specs.declared.state.PartStepped.{PartStepped}
-use Rattle.part.specs.Facts.{InPart, Whole}
-use Rattle.part.specs.Registers.{ctrlRead, ctrlWritten, ctrlpresetOf, ctrlPut, ctrlStore}
-use Rattle.part.specs.State.{blank, chan, window, putWindow, quiet, withKey}
+use Rattle.part.specs.Facts.{Whole}
+use Rattle.part.specs.Registers.{ctrlRead, ctrlWritten, ctrlPut, ctrlStore}
+use Rattle.part.specs.State.{blank, chan, window, putWindow, withKey}
 use Rattle.part.specs.Step.{edgeChannel, edgeAct, oneStep, oneBytes, triggerStep, allServed, allStored, partServed, partStored}
 use Rattle.part.specs.Laws.Memory.{fits}
 use Rattle.part.specs.Laws.Kept.{one-length}

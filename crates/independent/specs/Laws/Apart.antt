@@ -6,14 +6,14 @@ use native.Mathlib.Omega.{arith}
 use borrow.Author.Tests.{lt-ltb}
 use lib.Dec.{ltb}
 use Rattle.laws.specs.Pick.{if_then_else_}
-use Rattle.mixes.specs.Mix.{OfSome}
-use Rattle.mixes.specs.Laws.Apart.{Apart}
-use Rattle.part.specs.declared.map.Step.{Step}
-use Rattle.part.specs.declared.map.Target.{Target}
-use Rattle.part.specs.declared.map.Target.the-variants.{One, All}
-use Rattle.part.specs.Map.{targetOf}
+use Rattle.steps.specs.declared.map.Step.{Step}
+use Rattle.steps.specs.declared.map.Target.{Target}
+use Rattle.steps.specs.declared.map.Target.the-variants.{One, All}
+use Rattle.steps.specs.Map.{targetOf}
 use Rattle.part.specs.Step.{partServed, partStored}
 use Rattle.part.specs.Laws.Range.{step-accepted, bytes-accepted}
+use Rattle.mixes.specs.Mix.{OfSome}
+use Rattle.mixes.specs.Laws.Apart.{Apart}
 use Rattle.works.specs.Work.{Work, Reply, workAfter, workGives, replyBy, workDone, workReply}
 use Rattle.works.specs.Laws.Work.{work-kept, work-unmoved, work-commute}
 use Rattle.works.specs.Laws.Op.{opWork, op-after, op-reply}

@@ -45,17 +45,17 @@ use denote.Triple.Walked.{says, Stays, stay-ref, stay-none, gave-slice, walkOf, 
 use denote.Exit.{yes}
 use Rattle.channel.specs.Step.{stepOf, bytesAfter}
 use Rattle.channel.specs.declared.state.Channel.{Channel}
-use Rattle.channel.specs.declared.state.Answer.{Answer}
+use Rattle.head.specs.declared.state.Answer.{Answer}
 use Rattle.channel.specs.declared.state.Stepped.{Stepped}
-use Rattle.channel.specs.declared.step.Op.{Op}
+use Rattle.steps.specs.declared.map.Op.{Op}
 use Rattle.channel.proofs.state.Channel as T
 use Rattle.channel.proofs.state.Channel.Laws as T′
 use Rattle.channel.proofs.state.Stepped as B
 use Rattle.channel.proofs.state.Stepped.Laws as B′
-use Rattle.channel.proofs.state.Answer as R
-use Rattle.channel.proofs.state.Answer.Laws as R′
-use Rattle.channel.proofs.step.Op as O
-use Rattle.channel.proofs.step.Op.Laws as O′
+use Rattle.head.proofs.state.Answer as R
+use Rattle.head.proofs.state.Answer.Laws as R′
+use Rattle.steps.proofs.map.Op as O
+use Rattle.steps.proofs.map.Op.Laws as O′
 use Rattle.channel.proofs.state.Channel.step as step
 use Rattle.channel.proofs.state.Channel.step.Symbol as step-def
 use Rattle.channel.proofs.state.Channel.step.Symbol.{name as #step}

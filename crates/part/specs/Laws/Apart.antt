@@ -5,14 +5,14 @@ use mathlib.Core.List.{List}
 use mathlib.Core.Path.{_≡_, refl, sym}
 use lib.ListN.{length}
 use lib.Seq.{getD-set-other}
-use Rattle.channel.specs.declared.step.Op.{Op}
-use Rattle.part.specs.declared.map.Step.{Step}
-use Rattle.part.specs.declared.map.Target.the-variants.{One}
+use Rattle.steps.specs.declared.map.Op.{Op}
+use Rattle.steps.specs.declared.map.Step.{Step}
+use Rattle.steps.specs.declared.map.Target.the-variants.{One}
+use Rattle.steps.specs.Map.{targetOf}
+use Rattle.steps.specs.Laws.Map.{one-in-part}
 use Rattle.part.specs.declared.state.Part.{Part}
 use Rattle.part.specs.State.{blank, chan, window}
-use Rattle.part.specs.Map.{targetOf}
 use Rattle.part.specs.Step.{oneServed, oneStep, oneBytes, partServed, partStored, accepts, partStep, partBytes}
-use Rattle.part.specs.Laws.Map.{one-in-part}
 use Rattle.part.specs.Laws.Memory.{fits, window-other}
 use Rattle.part.specs.Laws.Range.{accepts-whole, step-accepted, bytes-accepted, step-refused, bytes-refused}
 use Rattle.part.specs.Laws.Kept.{one-length}

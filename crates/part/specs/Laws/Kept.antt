@@ -9,31 +9,33 @@ use lib.ListN.{length, set, length-replicate}
 use Rattle.laws.specs.Cases.{pick-holds, both, with}
 use Rattle.rules.specs.Numbers.{bufferSize, memorySize}
 use Rattle.rules.specs.Access.{keyAfter, resetsOf}
-use Rattle.rules.specs.Interrupt.{ctrlKept, maskIn}
-use Rattle.sequence.specs.declared.wires.Edge.{Edge}
+use Rattle.interrupt.specs.Interrupt.{ctrlKept, maskIn}
+use Rattle.rules.specs.declared.wires.Edge.{Edge}
+use Rattle.steps.specs.declared.map.Op.{Op}
+use Rattle.steps.specs.declared.map.Ctrl.{Ctrl}
+use Rattle.steps.specs.declared.map.Ctrl.the-variants.{Ctrlstatus, Ctrlintmsk, Reserved, DeviceId, Ctrlpreset, Nothing, Ctrlrdy}
+use Rattle.steps.specs.declared.map.Step.{Step}
+use Rattle.steps.specs.declared.map.Target.{Target}
+use Rattle.steps.specs.declared.map.Wide.{Wide}
+use Rattle.steps.specs.declared.map.Target.the-variants.{One, All}
+use Rattle.steps.specs.declared.map.Wide.the-variants.{CtrlWrite, CtrlRead, AllTrigger, AllReset, Beyond}
+use Rattle.steps.specs.Map.{targetOf}
+use Rattle.steps.specs.Keys.{ctrlpresetOf}
+use Rattle.steps.specs.Laws.Map.{in-part}
+use Rattle.steps.specs.Facts.{InPart}
 use Rattle.channel.specs.declared.state.Channel.{Channel}
-use Rattle.channel.specs.declared.step.Op.{Op}
 use Rattle.channel.specs.Range.{inRange}
 use Rattle.channel.specs.Facts.{Accepted}
 use Rattle.channel.specs.Laws.Kept.{serves-in-range, fresh-in-range, served-length}
 use Rattle.channel.specs.Laws.Frames.{trigger-in-range}
-use Rattle.part.specs.declared.map.Ctrl.{Ctrl}
-use Rattle.part.specs.declared.map.Ctrl.the-variants.{Ctrlstatus, Ctrlintmsk, Reserved, DeviceId, Ctrlpreset, Nothing, Ctrlrdy}
-use Rattle.part.specs.declared.map.Step.{Step}
-use Rattle.part.specs.declared.map.Target.{Target}
-use Rattle.part.specs.declared.map.Wide.{Wide}
-use Rattle.part.specs.declared.map.Target.the-variants.{One, All}
-use Rattle.part.specs.declared.map.Wide.the-variants.{CtrlWrite, CtrlRead, AllTrigger, AllReset, Beyond}
 use Rattle.part.specs.declared.state.Part.{Part}
 use Rattle.part.specs.declared.state.PartStepped.{PartStepped}
 use Rattle.part.specs.State.{chan, freshPart, wiped, window, withKey}
-use Rattle.part.specs.Map.{targetOf}
-use Rattle.part.specs.Registers.{ctrlRead, ctrlWritten, ctrlpresetOf, ctrlPut, ctrlStore}
+use Rattle.part.specs.Registers.{ctrlRead, ctrlWritten, ctrlPut, ctrlStore}
 use Rattle.part.specs.Step.{edgeChannel, allServed, allStored, oneServed, oneStep, oneBytes, triggerStep, partServed, partStored, channelsIn, partIn, accepts, partStep, partBytes}
-use Rattle.part.specs.Laws.Map.{in-part}
 use Rattle.part.specs.Laws.Memory.{fits, length-window, length-put}
 use Rattle.part.specs.Laws.Range.{accepts-whole, chan-in-range}
-use Rattle.part.specs.Facts.{InPart, Whole}
+use Rattle.part.specs.Facts.{Whole}
 
 -- ---- the channels: with one in range in c's place, and each by a function that keeps it in range
 pub set-in : (l : List Channel) (c : ℕ) (x : Channel) → channelsIn l ≡ true → inRange x ≡ true → channelsIn (set l c x) ≡ true

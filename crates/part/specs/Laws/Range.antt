@@ -7,14 +7,15 @@ use borrow.Author.Tests.{eqb-true, eq-eqb}
 use lib.ListN.{length, getD}
 use Rattle.laws.specs.Pick.{if_then_else_}
 use Rattle.laws.specs.Cases.{both, with}
-use Rattle.rules.specs.Range.{pointersIn, registersIn, countingOf, endedIn, blankOf, recordedIn, walkIn, frameIn}
+use Rattle.bounds.specs.Range.{pointersIn, registersIn, countingOf, endedIn, blankOf, recordedIn, walkIn, frameIn}
 use Rattle.rules.specs.Numbers.{outOfRange}
+use Rattle.steps.specs.declared.map.Step.{Step}
+use Rattle.steps.specs.Map.{targetOf}
+use Rattle.head.specs.Range.{headIn}
 use Rattle.channel.specs.declared.state.Channel.{Channel}
 use Rattle.channel.specs.Range.{inRange}
-use Rattle.part.specs.declared.map.Step.{Step}
 use Rattle.part.specs.declared.state.Part.{Part}
 use Rattle.part.specs.State.{blank, chan, refusedPart}
-use Rattle.part.specs.Map.{targetOf}
 use Rattle.part.specs.Step.{channelsIn, partIn, accepts, partServed, partStored, partStep, partBytes}
 use Rattle.part.specs.Facts.{Whole}
 
@@ -24,7 +25,7 @@ channels-of p e = both _ _ e .0
 
 -- what stands past the third channel is in range too, so that a channel's number need not be below 3
 blank-in : inRange blank ≡ true
-unfolding inRange pointersIn registersIn walkIn endedIn countingOf recordedIn blankOf frameIn if_then_else_
+unfolding inRange headIn pointersIn registersIn walkIn endedIn countingOf recordedIn blankOf frameIn if_then_else_
 blank-in = refl
 
 channel-in : (l : List Channel) (c : ℕ) → channelsIn l ≡ true → inRange (getD l c blank) ≡ true

@@ -1,46 +1,48 @@
 -- A part that is taken apart and put together is the same part, and stays it where a channel's head and row are put anew.
-use Prim.Native.Nat.{ℕ, zero, suc, _<_}
+use Prim.Native.Nat.{ℕ, zero, suc, _<_, _+_, _*_, _-_}
 use mathlib.Core.Bool.{true, false}
-use mathlib.Core.List.{List, [], _∷_, map}
+use mathlib.Core.List.{List, [], _∷_, _++_, map}
 use mathlib.Core.Path.{_≡_, refl, sym, _∙_, ap, subst}
 use native.Mathlib.Omega.{arith}
 use borrow.Author.Tests.{not-true}
-use lib.ListN.{length, getD, set, length-map, length-set}
-use lib.Seq.{getD-set-other, getD-set-same}
-use Rattle.rules.specs.Interrupt.{beAfter}
-use Rattle.sequence.specs.declared.wires.Edge.{Edge}
-use Rattle.channel.specs.declared.state.Channel.{Channel}
-use Rattle.channel.specs.declared.state.Head.{Head}
-use Rattle.channel.specs.declared.state.Headed.{Headed}
-use Rattle.channel.specs.declared.state.Stepped.{Stepped}
-use Rattle.channel.specs.declared.step.Op.{Op}
+use lib.ListN.{length, getD, set, take, drop, length-map, length-set}
+use lib.Seq.{drop-drop, getD-set-other, set-getD}
+use native.Mathlib.Nat.{add-sub-cancel-left}
 use Rattle.laws.specs.Pick.{if_then_else_}
 use Rattle.laws.specs.Cases.{past}
-use Rattle.rules.specs.Numbers.{done}
+use Rattle.rules.specs.Numbers.{bufferSize, done}
+use Rattle.interrupt.specs.Interrupt.{beAfter}
+use Rattle.rules.specs.declared.wires.Edge.{Edge}
 use Rattle.sequence.specs.Wires.{edgeBeat}
-use Rattle.channel.specs.State.{Served, on, plain}
+use Rattle.steps.specs.declared.map.Op.{Op}
+use Rattle.steps.specs.declared.map.Step.{Step}
+use Rattle.steps.specs.declared.map.Target.{Target}
+use Rattle.steps.specs.declared.map.Target.the-variants.{One, All}
+use Rattle.steps.specs.declared.map.Wide.{Wide}
+use Rattle.steps.specs.Map.{targetOf}
+use Rattle.steps.specs.Answer.{quiet}
+use Rattle.head.specs.declared.state.Head.{Head}
+use Rattle.head.specs.declared.state.Headed.{Headed}
+use Rattle.head.specs.State.{plain}
+use Rattle.channel.specs.declared.state.Channel.{Channel}
+use Rattle.channel.specs.declared.state.Stepped.{Stepped}
+use Rattle.channel.specs.State.{Served, leaving, on}
 use Rattle.channel.specs.Lent.{rejoined}
 use Rattle.channel.specs.Step.{servedBy}
 use Rattle.channel.specs.Facts.{Accepted}
 use Rattle.channel.specs.Range.{inRange}
 use Rattle.channel.specs.Wires.{beaten, triggered}
-use Rattle.part.specs.declared.rows.Common.{Common}
-use Rattle.part.specs.declared.rows.Heads.{Heads}
-use Rattle.part.specs.declared.rows.HeadsStepped.{HeadsStepped}
-use Rattle.part.specs.declared.rows.OneStepped.{OneStepped}
+use Rattle.heads.specs.declared.Common.{Common}
+use Rattle.heads.specs.declared.Heads.{Heads}
+use Rattle.heads.specs.declared.HeadsStepped.{HeadsStepped}
+use Rattle.heads.specs.declared.OneStepped.{OneStepped}
+use Rattle.heads.specs.Heads.{headAt, unarmedOf, commonAfter, oneTaken, oneStored, edgesStored}
 use Rattle.part.specs.declared.state.Part.{Part}
 use Rattle.part.specs.declared.state.PartStepped.{PartStepped}
-use Rattle.part.specs.declared.map.Step.{Step}
-use Rattle.part.specs.declared.map.Target.{Target}
-use Rattle.part.specs.declared.map.Target.the-variants.{One, All}
-use Rattle.part.specs.declared.map.Wide.{Wide}
-use Rattle.part.specs.Map.{targetOf}
-use Rattle.part.specs.State.{told, quiet, blank, chan, window, putWindow}
+use Rattle.part.specs.State.{told, blank, chan, window, putWindow}
 use Rattle.part.specs.Step.{
   triggerStep,
-  commonAfter,
   commonOf,
-  answerAt,
   oneAfter,
   oneStep,
   oneBytes,
@@ -61,7 +63,6 @@ use Rattle.part.specs.Rows.{
   tablesOf,
   rowsOf,
   Holds,
-  headAt,
   channelIn,
   channelOf,
   gathered,
@@ -69,13 +70,11 @@ use Rattle.part.specs.Rows.{
   Gives,
   givenIn,
   Tells,
-  unarmedOf,
   withRow,
   OneReady,
   servedIn,
-  oneOf,
+  headedOf,
   OneGives,
-  oneStored,
   EdgeGives,
 }
 use Rattle.part.specs.Facts.{Whole}
@@ -122,6 +121,10 @@ module _ (p : Part) where
         status = length-map (p .channels) (λ (x : Channel). x .status) ∙ three;
         counts = length-map (p .channels) (λ (x : Channel). x .bytecount) ∙ three;
       }
+
+-- the tables of the three, one by one, are the part's rows
+pub spread-holds : (p : Part) (h : Heads) → (h ≡ headsOf p) × (length (p .channels) ≡ 3) → Holds p h (tablesOf (chan p 0 ∷ chan p 1 ∷ chan p 2 ∷ []))
+spread-holds p h w = record { heads = w .0; rows = ap tablesOf (three-of blank (p .channels) (w .1)); three = w .1 }
 
 pub apart-gathered : (h : Heads) (t : Rows) → length (h .channels) ≡ 3 → Three t → Holds (gathered h t) h t
 apart-gathered h t n w =
@@ -210,7 +213,7 @@ module _ (p : Part) (h : Heads) (t : Rows) (w : Holds p h t) (m : List ℕ) (c :
   pub one-gives : OneGives (headAt h c) (h .common) t m c op r t′ m′ → Gives (oneStep p m c op) (oneStored h c r) t′ × (m′ ≡ oneBytes p m c op)
   unfolding oneStep served
   one-gives d =
-      let e = d .given ∙ ap (λ (y : Served). oneOf (h .common) c op (y .stepped)) same-served in
+      let e = d .given ∙ ap (λ (y : Served). oneTaken (h .common) c op (headedOf (y .stepped))) same-served in
       let k = commonAfter (h .common) op (served .stepped .answer) in (
         record {
           holds =
@@ -221,13 +224,7 @@ module _ (p : Part) (h : Heads) (t : Rows) (w : Holds p h t) (m : List ℕ) (c :
       )
 
 -- ---- what a step over lent tables gives: the channel x is what it gave back and the tables that it left
-abbrev headedOf : Stepped → Headed
-headedOf x = record { head = x .channel .head; answer = x .answer }
-
 module _ (x : Stepped) (r : Headed) (a b d e : List ℕ) (q : rejoined r a b d e ≡ x) where
-  pub lent-gives : (k : Common) (c : ℕ) (op : Op) → record { head = r .head; common = commonAfter k op (r .answer); answer = answerAt c (r .answer) } ≡ oneOf k c op x
-  lent-gives k c op = ap (oneOf k c op) q
-
   pub lent-headed : record { head = r .head; answer = r .answer } ≡ headedOf x
   lent-headed = ap headedOf q
 
@@ -235,6 +232,39 @@ module _ (x : Stepped) (r : Headed) (a b d e : List ℕ) (q : rejoined r a b d e
       → record { sla = set (t .sla) c a; lens = set (t .lens) c b; status = set (t .status) c d; counts = set (t .counts) c e }
       ≡ withRow t c (x .channel)
   lent-row c t = ap (λ (y : Stepped). withRow t c (y .channel)) q
+
+  -- where SLATABLE and TRANCONFIG are only read
+  pub shared-row : (c : ℕ) (t : Rows) → a ≡ getD (t .sla) c [] → b ≡ getD (t .lens) c []
+      → record { sla = t .sla; lens = t .lens; status = set (t .status) c d; counts = set (t .counts) c e } ≡ withRow t c (x .channel)
+  shared-row c t p r = rw (p, r, set-getD (t .sla) c [], set-getD (t .lens) c []) at (lent-row c t)
+
+-- A STEP OF ONE CHANNEL over its row and its bytes, which the code cuts out by where they start and end
+module _ (h : Head) (k : Common) (t : Rows) (m : List ℕ) (c : ℕ) (op : Op) where
+  abbrev start : ℕ
+  start = bufferSize * c
+
+  abbrev width : ℕ
+  width = (start + bufferSize) - start
+
+  same-width : width ≡ bufferSize
+  same-width = add-sub-cancel-left start bufferSize
+
+  pub one-accepted : OneReady h t m c → Accepted (channelIn h t c) (take width (drop start m))
+  unfolding window
+  one-accepted w = rw same-width (w .accepted)
+
+  pub one-left : (r : Headed) (a b d e l : List ℕ) (o : OneStepped)
+      → leaving l (rejoined r a b d e) ≡ servedBy (channelIn h t c) (take width (drop start m)) c op → o ≡ oneTaken k c op r
+      → OneGives h k t m c op o (record { sla = set (t .sla) c a; lens = set (t .lens) c b; status = set (t .status) c d; counts = set (t .counts) c e })
+      (take start m ++ (l ++ drop width (drop start m)))
+  unfolding window putWindow
+  one-left r a b d e l o q f =
+      let all = q ∙ ap (λ (w : ℕ). servedBy (channelIn h t c) (take w (drop start m)) c op) same-width in
+      record {
+        given = f ∙ ap (λ (y : Served). oneTaken k c op (headedOf (y .stepped))) all;
+        rows = ap (λ (y : Served). withRow t c (y .stepped .channel)) all;
+        memory = rw (same-width, drop-drop bufferSize start) (ap (λ (y : Served). putWindow c (y .bytes) m) all);
+      }
 
 -- ---- A STEP, by whom it concerns
 module _ (p : Part) (m : List ℕ) (w : Whole p m) (s : Step) (r : HeadsStepped) (t : Rows) (n : List ℕ) where
@@ -273,12 +303,6 @@ all-rows t a b d w =
       set-three (t .status) (a .status) (b .status) (d .status) (w .status),
       set-three (t .counts) (a .bytecount) (b .bytecount) (d .bytecount) (w .counts),
     )
-
--- the part's own three
-pub spread-holds : (p : Part) (h : Heads) (t t′ : Rows) → length (p .channels) ≡ 3 → Three t → h ≡ headsOf p
-    → t′ ≡ withRow (withRow (withRow t 0 (chan p 0)) 1 (chan p 1)) 2 (chan p 2) → Holds p h t′
-spread-holds p h t t′ three w e f =
-    record { heads = e; rows = f ∙ all-rows t (chan p 0) (chan p 1) (chan p 2) w ∙ ap tablesOf (three-of blank (p .channels) three); three = three }
 
 -- ---- A TRIGGER EDGE in heads and rows, channel by channel
 
@@ -326,24 +350,6 @@ unarmed-unmoved h t edge e =
         actions = record { action = x i .answer .action } ∷ record { action = y i .answer .action } ∷ record { action = z i .answer .action } ∷ [];
       };
     }
-
--- what is given back where the channels answered a, b and d
-abbrev pub edgesStored : Heads → Headed → Headed → Headed → HeadsStepped
-edgesStored h a b d = record {
-  heads = record {
-    channels = a .head ∷ b .head ∷ d .head ∷ [];
-    common = record {
-      be = beAfter (beAfter (beAfter (h .common .be) (a .answer .number)) (b .answer .number)) (d .answer .number);
-      mask = h .common .mask;
-      key = h .common .key;
-    };
-  };
-  answer = record {
-    number = done;
-    value = 0;
-    actions = record { action = a .answer .action } ∷ record { action = b .answer .action } ∷ record { action = d .answer .action } ∷ [];
-  };
-}
 
 module _ (h : Heads) (t : Rows) (edge : Edge) (three : Three t) where
   -- what channel c answers, as it stood before the edge

@@ -12,16 +12,16 @@ use lib.ListN.{length, take, drop, length-append, length-drop}
 use lib.Seq.{drop-drop, length-sets}
 use Rattle.laws.specs.Sets.{sets-append}
 use Rattle.laws.specs.Pick.{if_then_else_}
-use Rattle.part.specs.declared.rows.Heads.{Heads}
+use Rattle.steps.specs.declared.answer.PartAnswer.{PartAnswer}
+use Rattle.heads.specs.declared.Heads.{Heads}
 use Rattle.part.specs.declared.state.Part.{Part}
-use Rattle.part.specs.declared.state.PartAnswer.{PartAnswer}
 use Rattle.part.specs.Registers.{interruptOf}
 use Rattle.part.specs.Rows.{Rows, gathered, Holds}
 use Rattle.part.specs.Laws.Rows.{holds-part}
 use Rattle.part.specs.Facts.{Whole}
 use Rattle.script.specs.declared.reading.Line.{Line}
-use Rattle.script.specs.Answer.{Put, textIf, answerRoom, roomy, answerLine}
 use Rattle.script.specs.Grammar.{lineOf}
+use Rattle.answers.specs.Answer.{Put, textIf, answerRoom, roomy, answerLine}
 use Rattle.runner.specs.declared.answering.Course.{Course}
 use Rattle.runner.specs.Lines.{firstLf, lineEnd}
 use Rattle.runner.specs.Text.{Desk, endedLines, restOf, afterOne, replyTo, afterAll, repliesTo, numberAfter}

@@ -9,8 +9,8 @@ use lib.Dec.{eqb}
 use lib.ListN.{length, take, drop, length-take}
 use lib.Seq.{sets-eq, take-all, take-append-seam}
 use Rattle.laws.specs.Pick.{if_then_else_}
-use Rattle.script.specs.Answer.{Put}
 use Rattle.script.specs.Grammar.{lineRoom}
+use Rattle.answers.specs.Answer.{Put}
 use Rattle.runner.specs.Text.{endedLines, restOf, lastLine, Desk, Sitting, afterOne, replyTo, afterAll, repliesTo, fed, said, lastSaid}
 use Rattle.runner.specs.Lines.{firstLf}
 use Rattle.runner.specs.Feeding.{shortened}

@@ -2,16 +2,17 @@
 use Prim.Native.Nat.{ℕ}
 use mathlib.Core.List.{List}
 use mathlib.Core.Path.{_≡_, refl, sym, _∙_, subst}
-use Rattle.channel.specs.declared.step.Op.{Op}
-use Rattle.part.specs.declared.map.Target.{Target}
-use Rattle.part.specs.declared.map.Target.the-variants.{One as OneTarget, All as AllTarget}
-use Rattle.part.specs.declared.rows.Heads.{Heads}
-use Rattle.part.specs.declared.rows.HeadsStepped.{HeadsStepped}
-use Rattle.part.specs.declared.rows.OneStepped.{OneStepped}
+use Rattle.steps.specs.declared.map.Op.{Op}
+use Rattle.steps.specs.declared.map.Target.{Target}
+use Rattle.steps.specs.declared.map.Target.the-variants.{One as OneTarget, All as AllTarget}
+use Rattle.steps.specs.Map.{targetOf}
+use Rattle.heads.specs.declared.Heads.{Heads}
+use Rattle.heads.specs.declared.HeadsStepped.{HeadsStepped}
+use Rattle.heads.specs.declared.OneStepped.{OneStepped}
+use Rattle.heads.specs.Heads.{headAt, oneStored}
 use Rattle.part.specs.declared.state.Part.{Part}
 use Rattle.part.specs.declared.state.PartStepped.{PartStepped}
-use Rattle.part.specs.Map.{targetOf}
-use Rattle.part.specs.Rows.{Rows, headAt, gathered, Holds, Gives, OneGives, oneStored}
+use Rattle.part.specs.Rows.{Rows, gathered, Holds, Gives, OneGives}
 use Rattle.part.specs.Step.{oneStep, oneBytes, partServed, partStored}
 use Rattle.part.specs.Laws.Kept.{whole-kept}
 use Rattle.part.specs.Laws.Range.{whole-accepts, step-accepted, bytes-accepted}

@@ -3,10 +3,10 @@ use Prim.Native.Nat.{ℕ, _<_}
 use mathlib.Core.List.{List}
 use mathlib.Core.Path.{_≡_, refl, ap}
 use native.Mathlib.Omega.{arith}
+use Rattle.steps.specs.Facts.{InPart}
+use Rattle.part.specs.Step.{allServed, allStored, partServed, partStored}
 use Rattle.mixes.specs.Mix.{OfSome}
 use Rattle.mixes.specs.Laws.Apart.{Apart}
-use Rattle.part.specs.Facts.{InPart}
-use Rattle.part.specs.Step.{allServed, allStored, partServed, partStored}
 use Rattle.independent.specs.Statement.{State, Accepted}
 use Rattle.independent.specs.Laws.Apart.{part-apart}
 use Rattle.frames.specs.Deeds.{heardBy}

@@ -2,9 +2,9 @@
 use Prim.Native.Nat.{ℕ}
 use mathlib.Core.Bool.{Bool, true, false}
 use mathlib.Core.List.{List, [], _∷_, _++_, append-assoc, append-nil}
-use Rattle.script.specs.Answer.{header}
 use Rattle.script.specs.Grammar.{lineOf}
 use Rattle.script.specs.declared.reading.Line.{Line}
+use Rattle.answers.specs.Answer.{header}
 use Rattle.runner.specs.Run.{afterLine}
 use mathlib.Core.Path.{_≡_, refl, sym, _∙_, ap}
 use lib.Dec.{eqb}

@@ -4,11 +4,12 @@ use mathlib.Core.Bool.{Bool, true, false}
 use mathlib.Core.List.{[]}
 use mathlib.Core.Path.{_≡_, refl}
 use Rattle.laws.specs.Pick.{if_then_else_}
-use Rattle.channel.specs.declared.step.Op.{Op}
-use Rattle.channel.specs.declared.step.Op.the-variants.{Write, Read, Wire}
+use Rattle.steps.specs.declared.map.Op.{Op}
+use Rattle.steps.specs.declared.map.Op.the-variants.{Write, Read, Wire}
+use Rattle.steps.specs.Keys.{keyKept}
 use Rattle.channel.specs.Step.{servedBy}
 use Rattle.channel.specs.Laws.Kept.{serves-in-range, served-length}
-use Rattle.part.specs.Step.{keyKept, oneStep, oneBytes}
+use Rattle.part.specs.Step.{oneStep, oneBytes}
 use Rattle.works.specs.State.{State}
 use Rattle.works.specs.Work.{Work, workAfter, workGives, replyBy}
 

@@ -7,7 +7,7 @@ use lib.Seq.{set-comm, getD-set-other}
 use Rattle.laws.specs.Pick.{if_then_else_}
 use Rattle.laws.specs.Cases.{with, both}
 use Rattle.rules.specs.Numbers.{bufferSize}
-use Rattle.rules.specs.Laws.Interrupt.{be-swap}
+use Rattle.interrupt.specs.Laws.Interrupt.{be-swap}
 use Rattle.part.specs.State.{blank}
 use Rattle.part.specs.Step.{partIn}
 use Rattle.part.specs.Laws.Memory as memory

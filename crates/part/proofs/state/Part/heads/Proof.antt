@@ -14,7 +14,7 @@ returns c =
     let start = c .before .before .before .before .before .before .before in
     let l = start .args .self .channels in
     let three : length l ≡ 3 = simp length-map at (start .good .0 .1 .1 .0 .1 .0 .1) in
-    rw (← ap (map (λ (x : Channel). x .head)) (three-of blank l three))
+    (rw (← ap (map (λ (x : Channel). x .head)) (three-of blank l three)), three)
 
 pub heads-spec : {M : Type 1} → statement M
 heads-spec =

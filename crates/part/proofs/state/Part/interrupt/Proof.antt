@@ -1,6 +1,4 @@
 -- `part::state::Part::interrupt` meets its contract: the level of the heads is that of the part, whatever its tables.
-use mathlib.Core.Path.{_≡_}
-use lib.ListN.{length, length-map}
 use borrow.Author.Needs.{needs}
 use Rattle.part.specs.Rows.{rowsOf}
 use Rattle.part.specs.Laws.Rows.{gathered-apart}
@@ -9,10 +7,9 @@ use Rattle.part.proofs.state.Part.interrupt.Tie as tie
 
 returns : tie.Need-returns
 returns c =
-    let start = c .before .before in
-    let p = start .args .self in
-    let three : length (p .channels) ≡ 3 = simp length-map at (start .good .0 .1 .1 .0 .1 .0 .1) in
-    rw (c .before .heads .ensures, gathered-apart p three) at (c .interrupt-level .ensures (rowsOf p))
+    let heads = c .before in
+    let p = heads .before .args .self in
+    rw (heads .heads .ensures .0, gathered-apart p (heads .heads .ensures .1)) at (c .interrupt-level .ensures (rowsOf p))
 
 pub interrupt-spec : {M : Type 1} → statement M
 interrupt-spec =

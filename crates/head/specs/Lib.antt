@@ -1,0 +1,5 @@
+pub mod State
+pub mod Head
+pub mod Access
+pub mod Range
+pub mod Laws

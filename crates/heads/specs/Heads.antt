@@ -1,0 +1,75 @@
+-- The heads of the part's channels and what the part has beside its channels: what a channel's answer is to them.
+use Prim.Native.Nat.{ℕ}
+use mathlib.Core.Bool.{Bool, false, not}
+use mathlib.Core.List.{[], _∷_}
+use lib.ListN.{getD, set}
+use Rattle.laws.specs.Pick.{if_then_else_}
+use Rattle.rules.specs.Numbers.{done}
+use Rattle.interrupt.specs.Interrupt.{beAfter}
+use Rattle.sequence.specs.Walk.{idle, noFlags}
+use Rattle.steps.specs.declared.answer.PartAnswer.{PartAnswer}
+use Rattle.steps.specs.declared.map.Op.{Op}
+use Rattle.steps.specs.Answer.{onlyAt}
+use Rattle.steps.specs.Keys.{keyKept}
+use Rattle.head.specs.declared.state.Answer.{Answer}
+use Rattle.head.specs.declared.state.Head.{Head}
+use Rattle.head.specs.declared.state.Headed.{Headed}
+use Rattle.heads.specs.declared.Common.{Common}
+use Rattle.heads.specs.declared.Heads.{Heads}
+use Rattle.heads.specs.declared.HeadsStepped.{HeadsStepped}
+use Rattle.heads.specs.declared.OneStepped.{OneStepped}
+
+-- what stands past the third head, where nothing reads
+abbrev pub blankHead : Head
+blankHead = record {
+  regs = record { intmsk = 0; transel = 0; tranofs = 0; tp = false; te = false };
+  key = false;
+  settings = record { framecnt = 0; refrate = 0; scll = 0; sclh = 0; mode = 0; timeout = 0 };
+  ptrs = record { sla = 0; conf = 0; buf = 0; count = 0 };
+  flags = noFlags;
+  walk = idle;
+}
+
+-- the head of channel c
+abbrev pub headAt : Heads → ℕ → Head
+headAt h c = getD (h .channels) c blankHead
+
+-- no channel has TE 1
+unfoldable pub unarmedOf : Heads → Bool
+unarmedOf h =
+    if headAt h 0 .regs .te then false else
+    if headAt h 1 .regs .te then false else not (headAt h 2 .regs .te)
+
+-- what channel c's answer a is to the part: BE and the key of CTRLPRESET after it
+abbrev pub commonAfter : Common → Op → Answer → Common
+commonAfter k op a = record { be = beAfter (k .be) (a .number); mask = k .mask; key = keyKept op (k .key) }
+
+-- and the part's answer: its number, its value and its action
+abbrev pub answerAt : ℕ → Answer → PartAnswer
+answerAt c a = record { number = a .number; value = a .value; actions = onlyAt c (a .action) }
+
+-- what a step of channel c gives back: its head, what the part has beside its channels, and the answer
+abbrev pub oneTaken : Common → ℕ → Op → Headed → OneStepped
+oneTaken k c op x = record { head = x .head; common = commonAfter k op (x .answer); answer = answerAt c (x .answer) }
+
+-- that head and what is beside the channels are stored, and that answer is the part's
+abbrev pub oneStored : Heads → ℕ → OneStepped → HeadsStepped
+oneStored h c r = record { heads = record { channels = set (h .channels) c (r .head); common = r .common }; answer = r .answer }
+
+-- a trigger edge: what is given back where the channels answered a, b and d
+abbrev pub edgesStored : Heads → Headed → Headed → Headed → HeadsStepped
+edgesStored h a b d = record {
+  heads = record {
+    channels = a .head ∷ b .head ∷ d .head ∷ [];
+    common = record {
+      be = beAfter (beAfter (beAfter (h .common .be) (a .answer .number)) (b .answer .number)) (d .answer .number);
+      mask = h .common .mask;
+      key = h .common .key;
+    };
+  };
+  answer = record {
+    number = done;
+    value = 0;
+    actions = record { action = a .answer .action } ∷ record { action = b .answer .action } ∷ record { action = d .answer .action } ∷ [];
+  };
+}

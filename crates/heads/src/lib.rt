@@ -1,0 +1,187 @@
+// The heads of the part's channels and what the part has beside its channels; and what a channel's answer is to them.
+ghost use mathlib.Core.List.{[], _∷_};
+ghost use mathlib.Core.Path.{_≡_};
+ghost use Prim.Native.Nat.{_<_};
+ghost use Rattle.rules.specs.Registers.{activeOf};
+ghost use Rattle.interrupt.specs.Interrupt.{pendingOf};
+ghost use Rattle.heads.specs.Heads.{headAt, unarmedOf, oneTaken, oneStored, edgesStored};
+use head::Answer;
+use head::Head;
+use head::Headed;
+use interrupt::be_after;
+use interrupt::pending;
+use rules::DONE;
+use steps::Act;
+use steps::Op;
+use steps::PartAnswer;
+use steps::act_at;
+use steps::key_kept;
+
+// The part without its channels' tables.
+pub struct Heads {
+    pub channels: [Head; 3],
+    pub common: Common,
+}
+
+// What the part has beside its channels: BE, CTRLINTMSK, and whether A5h was written to CTRLPRESET.
+pub struct Common {
+    pub be: bool,
+    pub mask: u8,
+    pub key: bool,
+}
+
+// What a step of one channel gives back.
+pub struct OneStepped {
+    pub head: Head,
+    pub common: Common,
+    pub answer: PartAnswer,
+}
+
+// What a step gives back.
+pub struct HeadsStepped {
+    pub heads: Heads,
+    pub answer: PartAnswer,
+}
+
+// What a step of channel c gives back, where the channel answered r.
+pub fn one_told(k: Common, c: u8, op: Op, r: Headed) -> OneStepped
+    requires { ⌜ c < 3 ⌝ }
+    ensures { λ s. ⌜ s ≡ oneTaken k c op r ⌝ }
+{
+    let head = r.head;
+    let a = r.answer;
+    let action = a.action;
+    OneStepped {
+        head,
+        common: Common {
+            be: be_after(k.be, a.number),
+            mask: k.mask,
+            key: key_kept(op, k.key),
+        },
+        answer: PartAnswer {
+            number: a.number,
+            value: a.value,
+            actions: act_at(c, action),
+        },
+    }
+}
+
+// The three actions.
+fn three_acts(x: Answer, y: Answer, z: Answer) -> [Act; 3]
+    ensures { λ r. ⌜ r ≡ record { action = x .action } ∷ record { action = y .action } ∷ record { action = z .action } ∷ [] ⌝ }
+{
+    let a = x.action;
+    let b = y.action;
+    let d = z.action;
+    let first = Act { action: a };
+    let second = Act { action: b };
+    let third = Act { action: d };
+    [first, second, third]
+}
+
+impl Heads {
+    pub fn pending_at(self, c: usize) -> bool
+        requires { ⌜ c < 3 ⌝ }
+        ensures { λ r. ⌜ r ≡ pendingOf (headAt self c .flags) (headAt self c .regs .intmsk) ⌝ }
+    {
+        let h = self.channels[c];
+        let f = h.flags;
+        pending(f, h.regs.intmsk)
+    }
+
+    pub fn active_at(self, c: usize) -> bool
+        requires { ⌜ c < 3 ⌝ }
+        ensures { λ r. ⌜ r ≡ activeOf (headAt self c .walk .phase) ⌝ }
+    {
+        let h = self.channels[c];
+        let w = h.walk;
+        let p = w.phase;
+        rules::active(p)
+    }
+
+    pub fn with_be(self, be: bool) -> Heads
+        ensures { λ r. ⌜ r ≡ record { channels = self .channels; common = record { be = be; mask = self .common .mask; key = self .common .key } } ⌝ }
+    {
+        let mut h = self;
+        h.common.be = be;
+        h
+    }
+
+    pub fn with_mask(self, mask: u8) -> Heads
+        ensures { λ r. ⌜ r ≡ record { channels = self .channels; common = record { be = self .common .be; mask = mask; key = self .common .key } } ⌝ }
+    {
+        let mut h = self;
+        h.common.mask = mask;
+        h
+    }
+
+    pub fn with_key(self, key: bool) -> Heads
+        ensures { λ r. ⌜ r ≡ record { channels = self .channels; common = record { be = self .common .be; mask = self .common .mask; key = key } } ⌝ }
+    {
+        let mut h = self;
+        h.common.key = key;
+        h
+    }
+
+    // Whether no channel has TE 1, so that an edge does nothing.
+    pub fn unarmed(self) -> bool
+        ensures { λ r. ⌜ r ≡ unarmedOf self ⌝ }
+    {
+        let first = self.channels[0];
+        let second = self.channels[1];
+        let third = self.channels[2];
+        if first.regs.te {
+            return false;
+        }
+        if second.regs.te {
+            return false;
+        }
+        !third.regs.te
+    }
+
+    // What a trigger edge gives back, where the channels answered x, y and z.
+    pub fn edges_told(self, x: Headed, y: Headed, z: Headed) -> HeadsStepped
+        ensures { λ r. ⌜ r ≡ edgesStored self x y z ⌝ }
+    {
+        let first = x.head;
+        let second = y.head;
+        let third = z.head;
+        let be = be_after(
+            be_after(be_after(self.common.be, x.answer.number), y.answer.number),
+            z.answer.number,
+        );
+        HeadsStepped {
+            heads: Heads {
+                channels: [first, second, third],
+                common: Common {
+                    be,
+                    mask: self.common.mask,
+                    key: self.common.key,
+                },
+            },
+            answer: PartAnswer {
+                number: DONE,
+                value: 0,
+                actions: three_acts(x.answer, y.answer, z.answer),
+            },
+        }
+    }
+
+    // The head of channel c and what is beside the channels are stored, and the channel's answer is the part's.
+    pub fn store(self, c: u8, r: OneStepped) -> HeadsStepped
+        requires { ⌜ c < 3 ⌝ }
+        ensures { λ s. ⌜ s ≡ oneStored self c r ⌝ }
+    {
+        let i = c as usize;
+        let mut next = self;
+        let head = r.head;
+        next.channels[i] = head;
+        let common = r.common;
+        next.common = common;
+        let answer = r.answer;
+        HeadsStepped {
+            heads: next,
+            answer,
+        }
+    }
+}

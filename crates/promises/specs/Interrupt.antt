@@ -1,0 +1,22 @@
+-- No second outcome of crate interrupt: a statement for each public function.
+use Prim.Native.Nat.{ℕ}
+use mathlib.Core.Bool.{Bool}
+use mathlib.Core.Path.{_≡_}
+use Rattle.rules.specs.declared.state.Flags.{Flags}
+use Rattle.interrupt.specs.Interrupt.{ctrlKept, pendingOf, pulledBy, beAfter, maskIn}
+use Rattle.promises.specs.Promise.{Once, no-second}
+
+pub ctrl-kept-once : (v : ℕ) → Once ℕ (λ r. r ≡ ctrlKept v)
+ctrl-kept-once v = no-second (λ r h. h)
+
+pub pending-once : (f : Flags) (mask : ℕ) → Once Bool (λ r. r ≡ pendingOf f mask)
+pending-once f mask = no-second (λ r h. h)
+
+pub pulled-once : (be : Bool) (mask : ℕ) (first second third : Bool) → Once Bool (λ r. r ≡ pulledBy be mask first second third)
+pulled-once be mask first second third = no-second (λ r h. h)
+
+pub be-after-once : (be : Bool) (number : ℕ) → Once Bool (λ r. r ≡ beAfter be number)
+be-after-once be number = no-second (λ r h. h)
+
+pub mask-in-once : (mask : ℕ) → Once Bool (λ r. r ≡ maskIn mask)
+mask-in-once mask = no-second (λ r h. h)

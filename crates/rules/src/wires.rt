@@ -1,0 +1,32 @@
+// Document 01, 'A sequence on the wires': what a channel does on its wires, what they did, and an edge of the trigger.
+
+// What a channel does on the wires, in document 01's letters.
+pub enum Action {
+    Nothing,
+    S(u8),
+    R(u8),
+    D(u8),
+    C,
+    A,
+    Np,
+    Nr(u8),
+    P,
+}
+
+// What the wires did, or the bench's clock.
+pub enum Event {
+    Ack,
+    Byte(u8),
+    Nack,
+    Tick,
+    Stop,
+    Sda,
+    Scl,
+    Ill,
+}
+
+// An edge of the trigger.
+pub enum Edge {
+    Rising,
+    Falling,
+}
