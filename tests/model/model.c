@@ -487,6 +487,23 @@ static void reset_bytecount_pointer(struct channel *ch)
 
 /* ---- The reset keys ---------------------------------------------------- */
 
+static unsigned preset_of(unsigned c)
+{
+    return 0xC0 + 16 * c + R_PRESET;
+}
+
+/* "Any write to the part, at any address and refused or not (9 apart), now
+ *  forgets every other pending A5h.": every one but that of the register
+ *  written. */
+static void forget_other_keys(struct part *p, uint8_t address)
+{
+    for (unsigned c = 0; c < CHANNELS; c++)
+        if (address != preset_of(c))
+            p->ch[c].key = 0;
+    if (address != R_CTRLPRESET)
+        p->key = 0;
+}
+
 /* "Writing A5h to PRESET and then 5Ah resets that channel, its 4,352 bytes to
  *  zero, with no STOP" "A second A5h counts as a first." */
 static void write_preset(struct channel *ch, uint8_t *buf, uint8_t value)
@@ -935,10 +952,6 @@ static int write_stored(struct channel *ch, uint8_t *place, uint8_t value)
 static int write_register(struct channel *ch, uint8_t *buf, unsigned reg,
                           uint8_t value, struct action *act)
 {
-    /* "any other write at that channel's addresses between them forgets the
-     *  A5h"; "A refused write (except 9) still counts as a write" */
-    if (reg != R_PRESET)
-        ch->key = 0;
     switch (reg) {
     case R_CONTROL:    return write_control(ch, value, act);
     case R_INTMSK:     ch->intmsk = value & INTMSK_BITS; return OK;
@@ -1027,13 +1040,9 @@ static struct answer part_write(struct part *p, uint8_t address, uint8_t value)
     unsigned c;
     struct action act = no_action();
     int code;
-    /* "any write elsewhere between forgets it" */
-    if (address != R_CTRLPRESET)
-        p->key = 0;
-    if (address < 0xC0) {
-        p->ch[address / 64].key = 0;
+    forget_other_keys(p, address);
+    if (address < 0xC0)
         return answer_code(READ_ONLY);
-    }
     if (address >= 0xF0)
         return write_part_register(p, address, value);
     c = (address - 0xC0u) / 16;
