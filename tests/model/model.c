@@ -1178,18 +1178,35 @@ static int awaits_counted(const struct channel *ch)
     return 0;
 }
 
-static void check_wires(struct part *p, const struct answer *a)
+static unsigned resets_due(const uint8_t *s, const struct answer *a)
+{
+    static struct bus bus;
+    struct line l = { '?', 0, 0, a->code != OK };
+    if (a->code != UNREADABLE)
+        l.kind = (char)s[0];
+    if (l.kind == 'W') {
+        l.address = (uint8_t)hex_byte(s + 2);
+        l.value = (uint8_t)hex_byte(s + 5);
+    }
+    return log_line(&bus, &l);
+}
+
+static void check_wires(struct part *p, const uint8_t *s,
+                        const struct answer *a)
 {
     static struct logger loggers[CHANNELS];
+    unsigned due = resets_due(s, a);
     for (unsigned c = 0; c < CHANNELS; c++) {
         const struct channel *ch = &p->ch[c];
-        struct sight s = {
+        struct sight sight = {
             ch->told, a->act[c], ch->slatable, ch->tranconfig, ch->bytecount,
             buffer_of(p, c), read_control(ch), ch->intmsk
         };
-        const char *broken = log_step(&loggers[c], &s);
+        const char *broken = log_step(&loggers[c], &sight);
         if (broken == NULL && loggers[c].running && !awaits_counted(ch))
             broken = "hang";
+        if (!(ch->told & TOLD_RESET) != !(due & 1u << c))
+            broken = "reset";
         if (broken != NULL) {
             fprintf(stderr, "channel %u: the logger differs: %s\n", c, broken);
             give_up();
@@ -1210,7 +1227,7 @@ static struct answer run_step(struct part *p, const uint8_t *s, size_t n)
     before = *p;
     a = run_line(p, s, n);
     check_step(&before, p, &a);
-    check_wires(p, &a);
+    check_wires(p, s, &a);
     return a;
 #else
     return run_line(p, s, n);
