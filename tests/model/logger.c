@@ -381,6 +381,7 @@ static unsigned lost_to(unsigned pending, const struct line *l)
     return l->refused ? TO_REFUSED : TO_CHANNEL;
 }
 
+/* A whole key, and what it resets */
 static unsigned log_key(struct bus *bus, unsigned address)
 {
     for (unsigned i = 0; i < OF_CTRLPRESET; i++)
@@ -414,7 +415,7 @@ static unsigned log_write(struct bus *bus, const struct line *l)
     return 0;
 }
 
-/* The channels that the line has to reset, bitwise */
+/* The channels that the line has to reset: bit c for channel c */
 static unsigned log_line(struct bus *bus, const struct line *l)
 {
     unsigned before = bus->pending;

@@ -494,7 +494,8 @@ static unsigned preset_of(unsigned c)
 
 /* "Any write to the part, at any address and refused or not (9 apart), now
  *  forgets every other pending A5h.": every one but that of the register
- *  written. */
+ *  written, and so document 01's "any other write at that channel's addresses"
+ *  and "any write elsewhere" too. */
 static void forget_other_keys(struct part *p, uint8_t address)
 {
     for (unsigned c = 0; c < CHANNELS; c++)
@@ -1178,6 +1179,7 @@ static int awaits_counted(const struct channel *ch)
     return 0;
 }
 
+/* What the logger on the bus makes of the line: bit c for channel c */
 static unsigned resets_due(const uint8_t *s, const struct answer *a)
 {
     static struct bus bus;
