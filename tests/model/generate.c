@@ -136,11 +136,16 @@ static void push_write_at(unsigned c, unsigned address, unsigned value)
     push(&plans[c], line);
 }
 
-static void push_event(unsigned c, const char *name)
+static void push_event_of(unsigned c, unsigned of, const char *name)
 {
     char line[LINE];
-    snprintf(line, sizeof line, "E %X %.8s", c & 15, name);
+    snprintf(line, sizeof line, "E %X %.8s", of & 15, name);
     push(&plans[c], line);
+}
+
+static void push_event(unsigned c, const char *name)
+{
+    push_event_of(c, c, name);
 }
 
 static void push_byte(unsigned c)
@@ -586,25 +591,49 @@ static void plan_table_edge(unsigned c)
     push_read(c, R_TRANCONFIG);
 }
 
-/* The keys, whole and interrupted; the hardware reset */
-static void push_between_keys(unsigned c)
+/* What a key is kept over */
+static void push_no_write(unsigned c)
 {
-    switch (below(12)) {
+    static const char *const unreadable[] = {
+        "", "W f7 00", "W CF 5a", "w D2 00", "W E2 0"
+    };
+    switch (below(7)) {
     case 0: push_read(c, below(16)); break;
-    case 1: push_write(c, below(15), any_byte()); break;
-    case 2: push_write_at(c, 64 * c + below(64), 0x5A); break;
-    case 3: push_write_at(c, 64 * ((c + 1) % 3) + below(64), 0xA5); break;
-    case 4: push_write_at(c, 0xC0 + 16 * ((c + 1) % 3) + R_INTMSK, 0); break;
-    case 5: push_write_at(c, 0xF8 + below(8), 0xA5); break;
-    case 6: push_write_at(c, 0xF0 + below(7), 0); break;
-    case 7: push_event(c, "ILL"); break;
-    case 8: push(&plans[c], one_in(2) ? "T R" : "T F"); break;
-    case 9: push(&plans[c], "W f7 00"); break;
-    case 10: push_read_at(c, 0xF0 + below(16)); break;
-    default: push(&plans[c], one_in(2) ? "E 3 ACK" : "E F SCL"); break;
+    case 1: push_read_at(c, below(256)); break;
+    case 2: push_read_at(c, between(0xF0, 0xFF)); break;
+    case 3: push_event(c, "ILL"); break;
+    case 4: push_event_of(c, below(5), one_in(2) ? "ACK" : "STOP"); break;
+    case 5: push(&plans[c], one_in(2) ? "T R" : "T F"); break;
+    default: push(&plans[c], unreadable[below(5)]); break;
     }
 }
 
+/* What a key is lost to, unless it is of that register: with no. 0 to 6 */
+static void push_forgetting(unsigned c)
+{
+    static const uint8_t values[] = { 0xA5, 0x5A, 0x00 };
+    unsigned other = 0xC0 + 16 * ((c + between(1, 2)) % CHANNELS);
+    unsigned v = values[below(3)];
+    switch (below(16)) {
+    case 0: push_write(c, below(R_PRESET), any_byte()); break;
+    case 1: push_write(c, R_CHSTATUS, v); break;
+    case 2: push_write_at(c, 64 * c + below(64), v); break;
+    case 3: case 4: push_write_at(c, below(0xC0), v); break;
+    case 5: push_write_at(c, other + R_INTMSK, v); break;
+    case 6: push_write_at(c, other + R_TIMEOUT, v); break;
+    case 7: push_write_at(c, other + R_CHSTATUS, v); break;
+    case 8: push_write_at(c, other + R_TRANSEL, between(64, 255)); break;
+    case 9: push_write_at(c, other + R_TRANCONFIG, between(65, 255)); break;
+    case 10: push_write_at(c, other + R_PRESET, v); break;
+    case 11: push_write_at(c, R_CTRLPRESET, v); break;
+    case 12: push_write_at(c, R_CTRLINTMSK, one_in(2) ? 0 : v); break;
+    case 13: push_write_at(c, between(0xF2, 0xF6), v); break;
+    case 14: push_write_at(c, one_in(2) ? R_CTRLSTATUS : R_CTRLRDY, v); break;
+    default: push_write_at(c, between(0xF8, 0xFE), v); break;
+    }
+}
+
+/* A key, whole or interrupted */
 static void push_keys(unsigned c, unsigned address)
 {
     if (one_in(6)) {
@@ -617,9 +646,11 @@ static void push_keys(unsigned c, unsigned address)
     if (one_in(8))
         push_write_at(c, address, any_byte());
     if (one_in(2))
-        push_between_keys(c);
-    if (one_in(8))
-        push_between_keys(c);
+        push_no_write(c);
+    if (!one_in(3))
+        push_forgetting(c);
+    if (one_in(4))
+        push_no_write(c);
     push_write_at(c, address, 0x5A);
     if (one_in(4))
         push_write_at(c, address, 0x5A);
@@ -627,7 +658,25 @@ static void push_keys(unsigned c, unsigned address)
 
 static void push_channel_key(unsigned c)
 {
-    push_keys(c, 0xC0 + 16 * c + R_PRESET);
+    push_keys(c, preset_of(c));
+}
+
+/* Two keys: A5h and 5Ah of one forget the other's. ILL's flag, in both
+ * channels, shows which was reset. */
+static void push_two_keys(unsigned c)
+{
+    unsigned other = (c + between(1, 2)) % CHANNELS;
+    unsigned address[2] = {
+        preset_of(c), one_in(2) ? R_CTRLPRESET : preset_of(other)
+    };
+    push_event(c, "ILL");
+    push_event_of(c, other, "ILL");
+    for (unsigned i = between(3, 6); i > 0; i--) {
+        push_write_at(c, address[below(2)], one_in(2) ? 0xA5 : 0x5A);
+        if (one_in(4))
+            push_no_write(c);
+    }
+    push_read_at(c, 0xC0 + 16 * other + R_CHSTATUS);
 }
 
 /* A 5Ah after the reset does nothing: ILL's flag shows it, an event being no
@@ -641,31 +690,24 @@ static void push_second_5a(unsigned c)
     push_read(c, R_CHSTATUS);
 }
 
-static void plan_reset(unsigned c)
+/* INTMSK and ILL's flag are there before, and read afterwards. */
+static void push_reset(unsigned c)
 {
-    fill(&plans[c], 1, 3);
-    plans[c].together = !one_in(4);
-    if (one_in(4))
-        push_write(c, R_PRESET, 0xA5);
-    switch (below(8)) {
-    case 0: case 3:
-        push_keys(c, R_CTRLPRESET);
-        break;
-    case 1:
-        if (one_in(2))
-            push_write_at(c, R_CTRLPRESET, 0xA5);
+    push_write(c, R_INTMSK, between(0x10, 0xFF));
+    push_event(c, "ILL");
+    switch (below(16)) {
+    case 0:
+        push_write_at(c, one_in(2) ? R_CTRLPRESET : preset_of(c), 0xA5);
         push(&plans[c], "X");
         break;
-    case 2:     /* both keys at once */
-        push_write(c, R_PRESET, 0xA5);
-        push_write_at(c, R_CTRLPRESET, 0xA5);
-        if (one_in(2))
-            push_write_at(c, R_CTRLPRESET, 0x5A);
-        push_write(c, R_PRESET, 0x5A);
-        push_write_at(c, R_CTRLPRESET, 0x5A);
+    case 1: case 2: case 3: case 4:
+        push_keys(c, R_CTRLPRESET);
+        break;
+    case 5: case 6: case 7:
+        push_two_keys(c);
         break;
     default:
-        if (one_in(2)) {
+        if (one_in(3)) {
             plan_small(c);
             plans[c].budget = between(1, 10);
         }
@@ -674,6 +716,16 @@ static void plan_reset(unsigned c)
     }
     if (one_in(2))
         push_second_5a(c);
+    push_read(c, R_CHSTATUS);
+    push_read(c, R_INTMSK);
+}
+
+static void plan_reset(unsigned c)
+{
+    fill(&plans[c], 1, 3);
+    plans[c].together = !one_in(4);
+    for (unsigned i = between(2, 20); i > 0; i--)
+        push_reset(c);
     push_read(c, R_CONTROL);
     push_read(c, R_TRANCONFIG);
     push_read(c, R_FRAMECNT);
@@ -821,10 +873,12 @@ static void push_side(unsigned c)
         push_read(c, R_CHSTATUS);
         break;
     case 16:
-        if (one_in(6))
+        if (one_in(6)) {
+            plans[c].together = !one_in(4);
             push_channel_key(c);
-        else
+        } else {
             push_trigger(c, (int)below(2));
+        }
         break;
     default:
         push_write(c, R_CONTROL, STA | below(256));

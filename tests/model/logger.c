@@ -2,9 +2,11 @@
  * A logger beside each channel, as a logic analyser on its wires would be. It
  * sees the events that the channel answered 0, the actions, the two tables
  * and the buffer, and counts by these alone. After every step it compares.
+ * One more, on the parallel bus, sees the lines and says which channels each
+ * has to reset.
  *
  * model.c includes it before struct channel is known: it can't look at a
- * channel's phase or transaction, and BYTECOUNT is handed to it to be
+ * channel's phase, transaction or key, and BYTECOUNT is handed to it to be
  * compared.
  */
 
@@ -80,10 +82,51 @@ static const char *const counter_names[COUNTERS] = {
 
 static unsigned long seen[COUNTERS];
 
+/* The reset keys: what one was kept over counts where it resets, what it was
+ * lost to counts where its 5Ah comes and does nothing. The last four are of
+ * PRESET's keys only. */
+enum {
+    RESETS, OVER_A5, OVER_READ, OVER_EVENT, OVER_TRIGGER, OVER_UNREADABLE,
+    TO_VALUE, TO_CHANNEL, TO_REFUSED, TO_STATUS, TO_PRESET_A5, TO_PRESET_5A,
+    TO_PART, TO_READ_ONLY, TO_NOTHING, TO_X, OF_CTRLPRESET,
+    TO_OWN_CHANNEL = OF_CTRLPRESET, TO_OWN_STATUS, TO_CTRLPRESET_A5,
+    TO_CTRLPRESET_5A, OF_PRESET
+};
+
+static const char *const key_names[OF_PRESET] = {
+    [RESETS] = "resets",
+    [OVER_A5] = "kept-over-second-A5h",
+    [OVER_READ] = "kept-over-read",
+    [OVER_EVENT] = "kept-over-event",
+    [OVER_TRIGGER] = "kept-over-trigger",
+    [OVER_UNREADABLE] = "kept-over-unreadable",
+    [TO_VALUE] = "lost-to-another-value",
+    [TO_CHANNEL] = "lost-to-channel",
+    [TO_REFUSED] = "lost-to-channel-refused",
+    [TO_STATUS] = "lost-to-STATUS",
+    [TO_PRESET_A5] = "lost-to-PRESET-A5h",
+    [TO_PRESET_5A] = "lost-to-PRESET-5Ah",
+    [TO_PART] = "lost-to-F0h-FFh",
+    [TO_READ_ONLY] = "lost-to-F0h-FFh-refused",
+    [TO_NOTHING] = "lost-to-F8h-FEh",
+    [TO_X] = "lost-to-X",
+    [TO_OWN_CHANNEL] = "lost-to-own-channel",
+    [TO_OWN_STATUS] = "lost-to-own-STATUS",
+    [TO_CTRLPRESET_A5] = "lost-to-CTRLPRESET-A5h",
+    [TO_CTRLPRESET_5A] = "lost-to-CTRLPRESET-5Ah"
+};
+
+static unsigned long preset_seen[OF_PRESET], ctrlpreset_seen[OF_CTRLPRESET];
+
 static void print_seen(void)
 {
     for (unsigned i = 0; i < COUNTERS; i++)
         fprintf(stderr, "seen %s %lu\n", counter_names[i], seen[i]);
+    for (unsigned i = 0; i < OF_PRESET; i++)
+        fprintf(stderr, "seen PRESET-%s %lu\n", key_names[i], preset_seen[i]);
+    for (unsigned i = 0; i < OF_CTRLPRESET; i++)
+        fprintf(stderr, "seen CTRLPRESET-%s %lu\n", key_names[i],
+                ctrlpreset_seen[i]);
 }
 
 /* ---- The tables -------------------------------------------------------- */
@@ -281,4 +324,113 @@ static const char *log_step(struct logger *log, const struct sight *s)
         && memcmp(log->count, s->bytecount, sizeof log->count) != 0)
         broken = "count";
     return broken;
+}
+
+/* ---- The keys on the parallel bus -------------------------------------- */
+
+/* What it sees of a line: the first letter, or '?' where it can't be read */
+struct line {
+    char kind;
+    uint8_t address, value;     /* of a write */
+    uint8_t refused;
+};
+
+struct bus {
+    uint8_t pending;            /* where the last write was A5h, or 0 */
+    unsigned over;              /* the counters that its 5Ah moves, bitwise */
+    uint8_t lost[256];          /* the counter, by the address of the key */
+};
+
+static int has_key(unsigned address)
+{
+    return address == R_CTRLPRESET
+        || (address >= 0xC0 && address < 0xF0 && address % 16 == R_PRESET);
+}
+
+/* 3 is the whole part. */
+static unsigned channel_at(unsigned address)
+{
+    return address < 0xC0 ? address / 64 : (address - 0xC0) / 16;
+}
+
+static unsigned long *key_seen(unsigned address)
+{
+    return address == R_CTRLPRESET ? ctrlpreset_seen : preset_seen;
+}
+
+/* Which write it was that the A5h at this address was lost to */
+static unsigned lost_to(unsigned pending, const struct line *l)
+{
+    unsigned a = l->address;
+    int own = channel_at(a) == channel_at(pending);
+    int key = has_key(a) && (l->value == 0xA5 || l->value == 0x5A);
+    if (a == pending)
+        return TO_VALUE;
+    if (a < 0xC0)
+        return own ? TO_OWN_STATUS : TO_STATUS;
+    if (a >= R_NOTHING_FIRST && a <= R_NOTHING_LAST)
+        return TO_NOTHING;
+    if (a == R_CTRLPRESET && key)
+        return l->value == 0xA5 ? TO_CTRLPRESET_A5 : TO_CTRLPRESET_5A;
+    if (a >= 0xF0)
+        return l->refused ? TO_READ_ONLY : TO_PART;
+    if (own)
+        return TO_OWN_CHANNEL;
+    if (key)
+        return l->value == 0xA5 ? TO_PRESET_A5 : TO_PRESET_5A;
+    return l->refused ? TO_REFUSED : TO_CHANNEL;
+}
+
+/* A whole key, and what it resets */
+static unsigned log_key(struct bus *bus, unsigned address)
+{
+    for (unsigned i = 0; i < OF_CTRLPRESET; i++)
+        key_seen(address)[i] += bus->over >> i & 1;
+    if (address != R_CTRLPRESET)
+        return 1u << channel_at(address);
+    memset(bus, 0, sizeof *bus);
+    return (1u << CHANNELS) - 1;
+}
+
+/* "The sheet speaks of two consecutive parallel bus writes." So 5Ah resets
+ * exactly where the write before it was A5h at the same address. */
+static unsigned log_write(struct bus *bus, const struct line *l)
+{
+    unsigned a = l->address, before = bus->pending;
+    int first = has_key(a) && l->value == 0xA5;
+    int second = has_key(a) && l->value == 0x5A;
+    bus->pending = 0;
+    if (second && before == a)
+        return log_key(bus, a);
+    if (second && bus->lost[a] != 0)
+        key_seen(a)[bus->lost[a]]++;
+    if (first || second)
+        bus->lost[a] = 0;
+    if (before != 0 && !(first && before == a))
+        bus->lost[before] = (uint8_t)lost_to(before, l);
+    if (first) {
+        bus->pending = (uint8_t)a;
+        bus->over = 1u << RESETS | (unsigned)(before == a) << OVER_A5;
+    }
+    return 0;
+}
+
+/* The channels that the line has to reset: bit c for channel c */
+static unsigned log_line(struct bus *bus, const struct line *l)
+{
+    unsigned before = bus->pending;
+    switch (l->kind) {
+    case 'W':
+        return log_write(bus, l);
+    case 'X':
+        memset(bus, 0, sizeof *bus);
+        bus->lost[before] = TO_X;
+        return (1u << CHANNELS) - 1;
+    /* Reads, events, triggers and unreadable lines forget nothing. */
+    case 'R': bus->over |= 1u << OVER_READ; break;
+    case 'E': bus->over |= 1u << OVER_EVENT; break;
+    case 'T': bus->over |= 1u << OVER_TRIGGER; break;
+    default:  bus->over |= 1u << OVER_UNREADABLE; break;
+    }
+    return 0;
 }

@@ -487,6 +487,24 @@ static void reset_bytecount_pointer(struct channel *ch)
 
 /* ---- The reset keys ---------------------------------------------------- */
 
+static unsigned preset_of(unsigned c)
+{
+    return 0xC0 + 16 * c + R_PRESET;
+}
+
+/* "Any write to the part, at any address and refused or not (9 apart), now
+ *  forgets every other pending A5h.": every one but that of the register
+ *  written, and so document 01's "any other write at that channel's addresses"
+ *  and "any write elsewhere" too. */
+static void forget_other_keys(struct part *p, uint8_t address)
+{
+    for (unsigned c = 0; c < CHANNELS; c++)
+        if (address != preset_of(c))
+            p->ch[c].key = 0;
+    if (address != R_CTRLPRESET)
+        p->key = 0;
+}
+
 /* "Writing A5h to PRESET and then 5Ah resets that channel, its 4,352 bytes to
  *  zero, with no STOP" "A second A5h counts as a first." */
 static void write_preset(struct channel *ch, uint8_t *buf, uint8_t value)
@@ -935,10 +953,6 @@ static int write_stored(struct channel *ch, uint8_t *place, uint8_t value)
 static int write_register(struct channel *ch, uint8_t *buf, unsigned reg,
                           uint8_t value, struct action *act)
 {
-    /* "any other write at that channel's addresses between them forgets the
-     *  A5h"; "A refused write (except 9) still counts as a write" */
-    if (reg != R_PRESET)
-        ch->key = 0;
     switch (reg) {
     case R_CONTROL:    return write_control(ch, value, act);
     case R_INTMSK:     ch->intmsk = value & INTMSK_BITS; return OK;
@@ -1027,13 +1041,9 @@ static struct answer part_write(struct part *p, uint8_t address, uint8_t value)
     unsigned c;
     struct action act = no_action();
     int code;
-    /* "any write elsewhere between forgets it" */
-    if (address != R_CTRLPRESET)
-        p->key = 0;
-    if (address < 0xC0) {
-        p->ch[address / 64].key = 0;
+    forget_other_keys(p, address);
+    if (address < 0xC0)
         return answer_code(READ_ONLY);
-    }
     if (address >= 0xF0)
         return write_part_register(p, address, value);
     c = (address - 0xC0u) / 16;
@@ -1169,18 +1179,36 @@ static int awaits_counted(const struct channel *ch)
     return 0;
 }
 
-static void check_wires(struct part *p, const struct answer *a)
+/* What the logger on the bus makes of the line: bit c for channel c */
+static unsigned resets_due(const uint8_t *s, const struct answer *a)
+{
+    static struct bus bus;
+    struct line l = { '?', 0, 0, a->code != OK };
+    if (a->code != UNREADABLE)
+        l.kind = (char)s[0];
+    if (l.kind == 'W') {
+        l.address = (uint8_t)hex_byte(s + 2);
+        l.value = (uint8_t)hex_byte(s + 5);
+    }
+    return log_line(&bus, &l);
+}
+
+static void check_wires(struct part *p, const uint8_t *s,
+                        const struct answer *a)
 {
     static struct logger loggers[CHANNELS];
+    unsigned due = resets_due(s, a);
     for (unsigned c = 0; c < CHANNELS; c++) {
         const struct channel *ch = &p->ch[c];
-        struct sight s = {
+        struct sight sight = {
             ch->told, a->act[c], ch->slatable, ch->tranconfig, ch->bytecount,
             buffer_of(p, c), read_control(ch), ch->intmsk
         };
-        const char *broken = log_step(&loggers[c], &s);
+        const char *broken = log_step(&loggers[c], &sight);
         if (broken == NULL && loggers[c].running && !awaits_counted(ch))
             broken = "hang";
+        if (!(ch->told & TOLD_RESET) != !(due & 1u << c))
+            broken = "reset";
         if (broken != NULL) {
             fprintf(stderr, "channel %u: the logger differs: %s\n", c, broken);
             give_up();
@@ -1201,7 +1229,7 @@ static struct answer run_step(struct part *p, const uint8_t *s, size_t n)
     before = *p;
     a = run_line(p, s, n);
     check_step(&before, p, &a);
-    check_wires(p, &a);
+    check_wires(p, s, &a);
     return a;
 #else
     return run_line(p, s, n);
