@@ -1,19 +1,21 @@
 -- The heads of the part's channels and what the part has beside its channels: what a channel's answer is to them.
 use Prim.Native.Nat.{ℕ}
-use mathlib.Core.Bool.{Bool, false, not}
-use mathlib.Core.List.{[], _∷_}
+use mathlib.Core.Bool.{Bool, true, false, not}
+use mathlib.Core.List.{List, [], _∷_, map}
+use lib.Dec.{eqb}
 use lib.ListN.{getD, set}
 use Rattle.laws.specs.Pick.{if_then_else_}
 use Rattle.rules.specs.Numbers.{done}
 use Rattle.interrupt.specs.Interrupt.{beAfter}
 use Rattle.sequence.specs.Walk.{idle, noFlags}
 use Rattle.steps.specs.declared.answer.PartAnswer.{PartAnswer}
-use Rattle.steps.specs.declared.map.Op.{Op}
+use Rattle.steps.specs.declared.map.Target.{Target}
 use Rattle.steps.specs.Answer.{onlyAt}
-use Rattle.steps.specs.Keys.{keyKept}
+use Rattle.steps.specs.Keys.{writeForgets}
 use Rattle.head.specs.declared.state.Answer.{Answer}
 use Rattle.head.specs.declared.state.Head.{Head}
 use Rattle.head.specs.declared.state.Headed.{Headed}
+use Rattle.head.specs.State.{withKey}
 use Rattle.heads.specs.declared.Common.{Common}
 use Rattle.heads.specs.declared.Heads.{Heads}
 use Rattle.heads.specs.declared.HeadsStepped.{HeadsStepped}
@@ -40,17 +42,48 @@ unarmedOf h =
     if headAt h 0 .regs .te then false else
     if headAt h 1 .regs .te then false else not (headAt h 2 .regs .te)
 
--- what channel c's answer a is to the part: BE and the key of CTRLPRESET after it
-abbrev pub commonAfter : Common → Op → Answer → Common
-commonAfter k op a = record { be = beAfter (k .be) (a .number); mask = k .mask; key = keyKept op (k .key) }
+-- ---- document 02, request Two: the keys that a write forgets
+
+-- f done to all but number c
+abbrev pub allBut : {A : Type 0} → (A → A) → A → List A → ℕ → List A
+allBut f d l c = set (map f l) c (getD l c d)
+
+-- a head with no A5h pending
+abbrev pub keylessHead : Head → Head
+keylessHead h = withKey h false
+
+-- CTRLPRESET's key is number 3
+abbrev pub commonLeft : Common → ℕ → Common
+commonLeft k c = record { be = k .be; mask = k .mask; key = if eqb c 3 then k .key else false }
+
+-- every key forgotten but number c
+abbrev pub forgottenHeads : Heads → ℕ → Heads
+forgottenHeads h c = record { channels = allBut keylessHead blankHead (h .channels) c; common = commonLeft (h .common) c }
+
+-- some A5h is pending
+unfoldable pub keyedOf : Heads → Bool
+keyedOf h =
+    if headAt h 0 .key then true else
+    if headAt h 1 .key then true else
+    if headAt h 2 .key then true else h .common .key
+
+-- what a step forgets, before it is served
+abbrev pub headsLeft : Target → Heads → Heads
+headsLeft t h = writeForgets forgottenHeads t h
+
+-- ---- what a channel's answer is to the part
+
+-- BE after channel c's answer a
+abbrev pub commonAfter : Common → Answer → Common
+commonAfter k a = record { be = beAfter (k .be) (a .number); mask = k .mask; key = k .key }
 
 -- and the part's answer: its number, its value and its action
 abbrev pub answerAt : ℕ → Answer → PartAnswer
 answerAt c a = record { number = a .number; value = a .value; actions = onlyAt c (a .action) }
 
 -- what a step of channel c gives back: its head, what the part has beside its channels, and the answer
-abbrev pub oneTaken : Common → ℕ → Op → Headed → OneStepped
-oneTaken k c op x = record { head = x .head; common = commonAfter k op (x .answer); answer = answerAt c (x .answer) }
+abbrev pub oneTaken : Common → ℕ → Headed → OneStepped
+oneTaken k c x = record { head = x .head; common = commonAfter k (x .answer); answer = answerAt c (x .answer) }
 
 -- that head and what is beside the channels are stored, and that answer is the part's
 abbrev pub oneStored : Heads → ℕ → OneStepped → HeadsStepped

@@ -1,10 +1,13 @@
 // The heads of the part's channels and what the part has beside its channels; and what a channel's answer is to them.
+ghost use mathlib.Core.Bool.{false};
 ghost use mathlib.Core.List.{[], _∷_};
 ghost use mathlib.Core.Path.{_≡_};
 ghost use Prim.Native.Nat.{_<_};
+ghost use Rattle.laws.specs.Pick.{if_then_else_};
 ghost use Rattle.rules.specs.Registers.{activeOf};
 ghost use Rattle.interrupt.specs.Interrupt.{pendingOf};
-ghost use Rattle.heads.specs.Heads.{headAt, unarmedOf, oneTaken, oneStored, edgesStored};
+ghost use Rattle.head.specs.State.{withKey};
+ghost use Rattle.heads.specs.Heads.{headAt, unarmedOf, forgottenHeads, keyedOf, headsLeft, oneTaken, oneStored, edgesStored};
 use head::Answer;
 use head::Head;
 use head::Headed;
@@ -12,10 +15,11 @@ use interrupt::be_after;
 use interrupt::pending;
 use rules::DONE;
 use steps::Act;
-use steps::Op;
 use steps::PartAnswer;
+use steps::Target;
 use steps::act_at;
-use steps::key_kept;
+use steps::op_writes;
+use steps::wide_writes;
 
 // The part without its channels' tables.
 pub struct Heads {
@@ -44,9 +48,9 @@ pub struct HeadsStepped {
 }
 
 // What a step of channel c gives back, where the channel answered r.
-pub fn one_told(k: Common, c: u8, op: Op, r: Headed) -> OneStepped
+pub fn one_told(k: Common, c: u8, r: Headed) -> OneStepped
     requires { ⌜ c < 3 ⌝ }
-    ensures { λ s. ⌜ s ≡ oneTaken k c op r ⌝ }
+    ensures { λ s. ⌜ s ≡ oneTaken k c r ⌝ }
 {
     let head = r.head;
     let a = r.answer;
@@ -56,7 +60,7 @@ pub fn one_told(k: Common, c: u8, op: Op, r: Headed) -> OneStepped
         common: Common {
             be: be_after(k.be, a.number),
             mask: k.mask,
-            key: key_kept(op, k.key),
+            key: k.key,
         },
         answer: PartAnswer {
             number: a.number,
@@ -64,6 +68,19 @@ pub fn one_told(k: Common, c: u8, op: Op, r: Headed) -> OneStepped
             actions: act_at(c, action),
         },
     }
+}
+
+fn kept(own: bool, key: bool) -> bool
+    ensures { λ r. ⌜ r ≡ (if own then key else false) ⌝ }
+{
+    if own { key } else { false }
+}
+
+// A head with what is left of its key, where it is the write's own or not.
+fn head_left(h: Head, own: bool) -> Head
+    ensures { λ r. ⌜ r ≡ withKey h (if own then h .key else false) ⌝ }
+{
+    h.with_key(kept(own, h.key))
 }
 
 // The three actions.
@@ -121,6 +138,61 @@ impl Heads {
         let mut h = self;
         h.common.key = key;
         h
+    }
+
+    // Every pending A5h is forgotten but number c: channel c's, or for c 3 CTRLPRESET's.
+    fn forget_but(self, c: u8) -> Heads
+        ensures { λ r. ⌜ r ≡ forgottenHeads self c ⌝ }
+    {
+        let a = self.channels[0];
+        let b = self.channels[1];
+        let d = self.channels[2];
+        let first = head_left(a, c == 0);
+        let second = head_left(b, c == 1);
+        let third = head_left(d, c == 2);
+        Heads {
+            channels: [first, second, third],
+            common: Common {
+                be: self.common.be,
+                mask: self.common.mask,
+                key: kept(c == 3, self.common.key),
+            },
+        }
+    }
+
+    fn forget_where(self, write: bool, c: u8) -> Heads
+        ensures { λ r. ⌜ r ≡ (if write then forgottenHeads self c else self) ⌝ }
+    {
+        if write { self.forget_but(c) } else { self }
+    }
+
+    // Any write to the part, refused or not, forgets every pending A5h but its own register's. Called before the step is served.
+    pub fn forget(self, t: Target) -> Heads
+        ensures { λ r. ⌜ r ≡ headsLeft t self ⌝ }
+    {
+        match t {
+            Target::One(op, c) => self.forget_where(op_writes(op), c),
+            Target::All(w) => self.forget_where(wide_writes(w), 3),
+        }
+    }
+
+    // Whether some A5h is pending. Where none is, no step forgets one.
+    pub fn keyed(self) -> bool
+        ensures { λ r. ⌜ r ≡ keyedOf self ⌝ }
+    {
+        let first = self.channels[0];
+        let second = self.channels[1];
+        let third = self.channels[2];
+        if first.key {
+            return true;
+        }
+        if second.key {
+            return true;
+        }
+        if third.key {
+            return true;
+        }
+        self.common.key
     }
 
     // Whether no channel has TE 1, so that an edge does nothing.

@@ -1,3 +1,4 @@
+pub mod Keys
 pub mod Statement
 pub mod Tasks
 pub mod Laws

@@ -1,11 +1,12 @@
 -- DEMAND 3, which document 01 names and does not word: the three channels do not disturb each other. From any accepted state, any mix of three
 -- channels' step lists (each in its own order, no whole-part step) gives each step the same answer and action, and ends in the same state, memory
--- and interrupt level, as list 0, then 1, then 2.
--- A reader has to believe this page, the page of states (crate works, specs/State.antt), the page of mixes and runs (crate mixes, specs/Mix.antt), and the
+-- and interrupt level, as list 0, then 1, then 2. Document 02, request Two: no list writes to a PRESET, and no channel's key is pending at the start.
+-- A reader has to believe this page, the pages of states and of writes to a PRESET (crate works, specs/State.antt, specs/Keys.antt), the page of mixes and runs (crate mixes, specs/Mix.antt), and the
 -- rules of a step that the contract of `Part::step` cites (crate part, specs/Step.antt: partStep, partBytes); for steps with a buffer of their own also
 -- Tasks.antt and the page of works (crate works, specs/Work.antt). Theorem.antt says what is proved, of every state, mix and order; the last line of each
 -- statement there and all of Laws/ are proof.
 use Prim.Native.Nat.{ℕ}
+use mathlib.Core.Bool.{Bool, false}
 use mathlib.Core.List.{List, _++_}
 use mathlib.Core.Path.{_≡_}
 use Rattle.steps.specs.declared.map.Op.{Op}
@@ -14,15 +15,35 @@ use Rattle.steps.specs.declared.map.Target.{Target}
 use Rattle.steps.specs.declared.map.Target.the-variants.{One, All}
 use Rattle.steps.specs.declared.answer.PartAnswer.{PartAnswer}
 use Rattle.steps.specs.Map.{targetOf}
+use Rattle.laws.specs.Lists.{All as Each}
 use Rattle.part.specs.Registers.{interruptOf}
+use Rattle.part.specs.State.{chan}
 use Rattle.part.specs.Step.{partStep, partBytes}
 use Rattle.mixes.specs.Mix.{Mix, Machine, ends, log, only}
+use Rattle.works.specs.Keys.{writesPreset}
 pub use Rattle.works.specs.State.{State, Accepted}
 
 -- a step of channel c; there is none where the step is one of the whole part
 pub record OfChannel (c : ℕ) (a : Step) : Type 0 where
   pub op : Op
   pub is : targetOf a ≡ One op c
+
+-- it writes to the PRESET of its channel
+abbrev pub presetWritten : Target → Bool
+presetWritten (One op c) = writesPreset c op
+presetWritten (All t) = false
+
+-- it does not
+abbrev pub SparesPreset : Step → Type 0
+SparesPreset a = presetWritten (targetOf a) ≡ false
+
+-- no list writes to a PRESET
+abbrev pub NoPreset : List Step → Type 0
+NoPreset l = Each SparesPreset l
+
+-- no channel's key is pending; CTRLPRESET's may be
+abbrev pub NoChannelKey : State → Type 0
+NoChannelKey s = (c : ℕ) → chan (s .part) c .head .key ≡ false
 
 -- the channel that a step is of, and 3 where it is one of the whole part
 abbrev pub ownerOf : Target → ℕ

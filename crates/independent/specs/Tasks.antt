@@ -8,7 +8,7 @@ use Rattle.laws.specs.Pick.{if_then_else_}
 use Rattle.steps.specs.declared.map.Step.{Step}
 use Rattle.mixes.specs.Mix.{Machine}
 use Rattle.works.specs.Work.{Work, Reply, workDone, workReply}
-use Rattle.independent.specs.Statement.{State, OfChannel, thePart}
+use Rattle.independent.specs.Statement.{State, OfChannel, SparesPreset, thePart}
 
 -- a task: a step of the part, or the call of a work of channel c, which holds what the work's buffer holds at the call
 pub data Task : Type 0 where
@@ -37,3 +37,8 @@ theBench = record { answer = replyTo; after = afterTask; owner = ownerOfTask }
 abbrev pub TaskOf : ℕ → Task → Type 0
 TaskOf c (step a) = OfChannel c a
 TaskOf c (work d w) = d ≡ c
+
+-- it does not write to a PRESET, as no work does
+abbrev pub TaskSparesPreset : Task → Type 0
+TaskSparesPreset (step a) = SparesPreset a
+TaskSparesPreset (work c w) = Unit {0}

@@ -2,5 +2,6 @@
 pub mod Memory
 pub mod Range
 pub mod Kept
+pub mod Keys
 pub mod Apart
 pub mod Rows

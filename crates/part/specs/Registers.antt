@@ -54,7 +54,7 @@ ctrlWritten p Ctrlpreset v = plainPart p
 ctrlWritten p Nothing v = refusedPart p nowhere
 ctrlWritten p Ctrlrdy v = refusedPart p readOnly
 
--- writing A5h to CTRLPRESET and then 5Ah resets the whole part; any write elsewhere between forgets the A5h
+-- writing A5h to CTRLPRESET and then 5Ah resets the whole part; any other write at F0h to FFh forgets the A5h, as one elsewhere does (`forgetting`, Step.antt)
 unfoldable pub ctrlPut : Part → Ctrl → ℕ → PartStepped
 ctrlPut p reg v = if resetsOf (ctrlpresetOf reg) v (p .key) then plainPart freshPart else ctrlWritten (withKey p (keyAfter (ctrlpresetOf reg) v)) reg v
 

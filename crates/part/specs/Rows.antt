@@ -25,9 +25,8 @@ use Rattle.heads.specs.declared.OneStepped.{OneStepped}
 use Rattle.heads.specs.Heads.{headAt, oneTaken}
 use Rattle.part.specs.declared.state.Part.{Part}
 use Rattle.part.specs.declared.state.PartStepped.{PartStepped}
-use Rattle.part.specs.State.{window, putWindow}
+use Rattle.part.specs.State.{commonOf, window, putWindow}
 use Rattle.part.specs.Registers.{ctrlstatusOf, interruptOf}
-use Rattle.part.specs.Step.{commonOf}
 use Rattle.part.specs.Facts.{Whole}
 
 -- the tables of all channels: SLATABLE, TRANCONFIG, STATUS and BYTECOUNT, each in a list with a row for each channel
@@ -171,7 +170,7 @@ headedOf x = record { head = x .channel .head; answer = x .answer }
 
 -- what comes of it: what is given back, row c, and the bytes
 pub record OneGives (h : Head) (k : Common) (t : Rows) (m : List ℕ) (c : ℕ) (op : Op) (r : OneStepped) (t′ : Rows) (m′ : List ℕ) : Type 0 where
-  pub given : r ≡ oneTaken k c op (headedOf (servedIn h t m c op .stepped))
+  pub given : r ≡ oneTaken k c (headedOf (servedIn h t m c op .stepped))
   pub rows : t′ ≡ withRow t c (servedIn h t m c op .stepped .channel)
   pub memory : m′ ≡ putWindow c (servedIn h t m c op .bytes) m
 

@@ -8,8 +8,9 @@ use Rattle.rules.specs.Numbers.{bufferSize, memorySize, done}
 use Rattle.steps.specs.declared.answer.Act.{Act}
 use Rattle.steps.specs.Answer.{quiet}
 use Rattle.channel.specs.declared.state.Channel.{Channel}
-use Rattle.channel.specs.State.{fresh}
-use Rattle.heads.specs.Heads.{blankHead}
+use Rattle.channel.specs.State.{fresh, withHead}
+use Rattle.heads.specs.Heads.{blankHead, keylessHead, allBut, commonLeft}
+use Rattle.heads.specs.declared.Common.{Common}
 use Rattle.part.specs.declared.state.Part.{Part}
 use Rattle.part.specs.declared.state.PartStepped.{PartStepped}
 
@@ -65,6 +66,10 @@ blank = record {
 abbrev pub chan : Part → ℕ → Channel
 chan p c = getD (p .channels) c blank
 
+-- what the part has beside its channels
+abbrev pub commonOf : Part → Common
+commonOf p = record { be = p .be; mask = p .mask; key = p .key }
+
 -- channel c's own 4,352 bytes, from 4,352 times its number
 unfoldable pub window : ℕ → List ℕ → List ℕ
 window c m = windowOf bufferSize c m
@@ -72,3 +77,13 @@ window c m = windowOf bufferSize c m
 -- the memory with l in the place of channel c's bytes, and every other byte as it was
 unfoldable pub putWindow : ℕ → List ℕ → List ℕ → List ℕ
 putWindow c l m = putWindowOf bufferSize c l m
+
+-- ---- the keys
+
+-- a channel with no A5h pending
+abbrev pub keyless : Channel → Channel
+keyless c = withHead c (keylessHead (c .head))
+
+-- every pending A5h forgotten but number c: channel c's, or for c 3 CTRLPRESET's
+abbrev pub forgotten : Part → ℕ → Part
+forgotten p c = record { channels = allBut keyless blank (p .channels) c; be = p .be; mask = p .mask; key = commonLeft (commonOf p) c .key }

@@ -16,6 +16,7 @@ use Rattle.steps.specs.declared.map.Wide.{Wide}
 use Rattle.steps.specs.declared.map.Target.the-variants.{One, All}
 use Rattle.steps.specs.declared.map.Wide.the-variants.{CtrlWrite, CtrlRead, AllTrigger, AllReset, Beyond}
 use Rattle.steps.specs.Map.{targetOf}
+use Rattle.steps.specs.Keys.{writeForgets}
 use Rattle.channel.specs.declared.state.Channel.{Channel}
 use Rattle.channel.specs.declared.state.Stepped.{Stepped}
 use Rattle.channel.specs.Range.{inRange}
@@ -26,7 +27,7 @@ use Rattle.heads.specs.Heads.{commonAfter, answerAt}
 use Rattle.heads.specs.declared.Common.{Common}
 use Rattle.part.specs.declared.state.Part.{Part}
 use Rattle.part.specs.declared.state.PartStepped.{PartStepped}
-use Rattle.part.specs.State.{freshPart, wiped, told, refusedPart, plainPart, chan, window, putWindow}
+use Rattle.part.specs.State.{freshPart, wiped, told, refusedPart, plainPart, commonOf, chan, window, putWindow, forgotten}
 use Rattle.part.specs.Registers.{ctrlRead, ctrlPut, ctrlStore}
 
 -- ---- a step of channel c
@@ -35,20 +36,16 @@ use Rattle.part.specs.Registers.{ctrlRead, ctrlPut, ctrlStore}
 abbrev pub oneAfter : Part → ℕ → Channel → Common → Part
 oneAfter p c r t = record { channels = set (p .channels) c r; be = t .be; mask = t .mask; key = t .key }
 
--- what the part has beside its channels
-abbrev pub commonOf : Part → Common
-commonOf p = record { be = p .be; mask = p .mask; key = p .key }
-
 -- the part after channel c answered r
-abbrev pub oneTold : Part → ℕ → Op → Stepped → PartStepped
-oneTold p c op r = record { part = oneAfter p c (r .channel) (commonAfter (commonOf p) op (r .answer)); answer = answerAt c (r .answer) }
+abbrev pub oneTold : Part → ℕ → Stepped → PartStepped
+oneTold p c r = record { part = oneAfter p c (r .channel) (commonAfter (commonOf p) (r .answer)); answer = answerAt c (r .answer) }
 
 -- each channel works on its own 4,352 bytes
 abbrev pub oneServed : Part → List ℕ → ℕ → Op → Served
 oneServed p m c op = servedBy (chan p c) (window c m) c op
 
 unfoldable pub oneStep : Part → List ℕ → ℕ → Op → PartStepped
-oneStep p m c op = oneTold p c op (oneServed p m c op .stepped)
+oneStep p m c op = oneTold p c (oneServed p m c op .stepped)
 
 unfoldable pub oneBytes : Part → List ℕ → ℕ → Op → List ℕ
 oneBytes p m c op = putWindow c (oneServed p m c op .bytes) m
@@ -93,13 +90,24 @@ allStored p m AllReset = wiped
 allStored p m Beyond = m
 
 -- ---- whom the step concerns
+unfoldable pub targetServed : Part → List ℕ → Target → PartStepped
+targetServed p m (One op c) = oneStep p m c op
+targetServed p m (All t) = allServed p t
+
+unfoldable pub targetStored : Part → List ℕ → Target → List ℕ
+targetStored p m (One op c) = oneBytes p m c op
+targetStored p m (All t) = allStored p m t
+
+-- ---- document 02, request Two: any write to the part, at any address and refused or not (9 apart), forgets every other pending A5h; reads, events and triggers
+-- forget none. What becomes of its own register's, and that a whole reset forgets all, the step's own rule says
+unfoldable pub forgetting : Target → Part → Part
+forgetting t p = writeForgets forgotten t p
+
 unfoldable pub partServed : Part → List ℕ → Target → PartStepped
-partServed p m (One op c) = oneStep p m c op
-partServed p m (All t) = allServed p t
+partServed p m t = targetServed (forgetting t p) m t
 
 unfoldable pub partStored : Part → List ℕ → Target → List ℕ
-partStored p m (One op c) = oneBytes p m c op
-partStored p m (All t) = allStored p m t
+partStored p m t = targetStored (forgetting t p) m t
 
 -- ---- no. 9: lent memory not 13,056 bytes, or a state out of range
 

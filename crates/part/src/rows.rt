@@ -6,10 +6,11 @@ ghost use Prim.Native.Nat.{_<_};
 ghost use lib.ListN.{length};
 ghost use Rattle.rules.specs.Numbers.{memorySize};
 ghost use Rattle.steps.specs.Answer.{quiet};
+ghost use Rattle.steps.specs.Facts.{InPart};
 ghost use Rattle.channel.specs.Range.{inRange};
 ghost use Rattle.part.specs.State.{freshPart, wiped, plainPart, told};
 ghost use Rattle.part.specs.Registers.{ctrlRead, ctrlWritten, ctrlPut, ctrlStore};
-ghost use Rattle.part.specs.Step.{partIn, triggerStep, allServed, allStored, partStep, partBytes};
+ghost use Rattle.part.specs.Step.{partIn, triggerStep, allServed, allStored, partServed, partStored};
 ghost use Rattle.part.specs.Rows.{Three, Holds, headsOf, channelIn, channelOf, gathered, rowsIn, rowsFound, rowsLeft, found};
 ghost use Rattle.part.specs.Rows.{Ready, Gives, Tells, Shows, Pulls, OneReady, OneGives, EdgeGives};
 use crate::state::Part;
@@ -34,12 +35,10 @@ use rules::weight;
 use steps::Ctrl;
 use steps::Op;
 use steps::PartAnswer;
-use steps::Step;
 use steps::Target;
 use steps::Wide;
 use steps::is_ctrlpreset;
 use steps::no_acts;
-use steps::target_of;
 
 // Takes the part apart: puts the tables of each channel into its row, and gives the rest.
 pub fn spread(
@@ -313,29 +312,29 @@ pub fn all(
     }
 }
 
-// One step of the part, of a part and a memory that no. 9 does not refuse.
-pub(crate) fn advance(
+// A step of the part by whom it concerns, of a part and a memory that no. 9 does not refuse. What it forgets comes first.
+pub(crate) fn serve(
     heads: Heads,
     sla: &mut [[u8; 64]; 3],
     lens: &mut [[u8; 65]; 3],
     status: &mut [[u8; 64]; 3],
     counts: &mut [[u8; 64]; 3],
     mem: &mut [u8],
-    s: Step,
+    t: Target,
 ) -> HeadsStepped
-    requires { ⌜ Ready heads (rowsIn sla lens status counts) (now mem) ⌝ }
-    ensures { λ r. ⌜ Gives (partStep (found heads sla lens status counts) (now (mem .entry)) s) r (rowsLeft sla lens status counts)
-        × (now (mem .exit) ≡ partBytes (found heads sla lens status counts) (now (mem .entry)) s) ⌝ }
+    requires { ⌜ Ready heads (rowsIn sla lens status counts) (now mem) × InPart t ⌝ }
+    ensures { λ r. ⌜ Gives (partServed (found heads sla lens status counts) (now (mem .entry)) t) r (rowsLeft sla lens status counts)
+        × (now (mem .exit) ≡ partStored (found heads sla lens status counts) (now (mem .entry)) t) ⌝ }
 {
-    let t = target_of(s);
+    let left = heads.forget(t);
     match t {
         Target::One(op, c) => {
             let i = c as usize;
-            let h = heads.channels[i];
-            let r = one(h, heads.common, sla, lens, status, counts, mem, c, op);
-            heads.store(c, r)
+            let h = left.channels[i];
+            let r = one(h, left.common, sla, lens, status, counts, mem, c, op);
+            left.store(c, r)
         }
-        Target::All(w) => all(heads, sla, lens, status, counts, mem, w),
+        Target::All(w) => all(left, sla, lens, status, counts, mem, w),
     }
 }
 
@@ -367,7 +366,7 @@ pub fn one(
         &mut mem[start..till],
         op,
     );
-    one_told(k, c, op, r)
+    one_told(k, c, r)
 }
 
 // A trigger edge on channel c with the head h, in its own rows.

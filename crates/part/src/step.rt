@@ -5,9 +5,9 @@ ghost use Prim.Native.Nat.{_<_};
 ghost use Rattle.part.specs.Registers.{interruptOf};
 ghost use Rattle.part.specs.Step.{channelsIn, partIn, accepts, partStep, partBytes};
 ghost use Rattle.part.specs.Facts.{Whole};
-use crate::rows::advance;
 use crate::rows::gather;
 use crate::rows::interrupt_level;
+use crate::rows::serve;
 use crate::rows::spread;
 use crate::state::Part;
 use crate::state::PartStepped;
@@ -15,6 +15,7 @@ use interrupt::mask_in;
 use rules::MEMORY;
 use rules::OUT_OF_RANGE;
 use steps::Step;
+use steps::target_of;
 
 impl Part {
     fn channels_in(self) -> bool
@@ -63,7 +64,8 @@ impl Part {
         let mut status = [[0u8; 64]; 3];
         let mut counts = [[0u8; 64]; 3];
         let h = spread(self, &mut sla, &mut lens, &mut status, &mut counts);
-        let r = advance(h, &mut sla, &mut lens, &mut status, &mut counts, mem, s);
+        let t = target_of(s);
+        let r = serve(h, &mut sla, &mut lens, &mut status, &mut counts, mem, t);
         let g = r.heads;
         let answer = r.answer;
         PartStepped {

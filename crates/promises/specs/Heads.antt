@@ -4,17 +4,17 @@ use mathlib.Core.Bool.{Bool}
 use mathlib.Core.Path.{_≡_}
 use Rattle.rules.specs.Registers.{activeOf}
 use Rattle.interrupt.specs.Interrupt.{pendingOf}
-use Rattle.steps.specs.declared.map.Op.{Op}
+use Rattle.steps.specs.declared.map.Target.{Target}
 use Rattle.head.specs.declared.state.Headed.{Headed}
 use Rattle.heads.specs.declared.Common.{Common}
 use Rattle.heads.specs.declared.Heads.{Heads}
 use Rattle.heads.specs.declared.HeadsStepped.{HeadsStepped}
 use Rattle.heads.specs.declared.OneStepped.{OneStepped}
-use Rattle.heads.specs.Heads.{headAt, unarmedOf, oneTaken, oneStored, edgesStored}
+use Rattle.heads.specs.Heads.{headAt, unarmedOf, keyedOf, headsLeft, oneTaken, oneStored, edgesStored}
 use Rattle.promises.specs.Promise.{Once, no-second}
 
-pub one-told-once : (k : Common) (c : ℕ) (op : Op) (r : Headed) → Once OneStepped (λ s. s ≡ oneTaken k c op r)
-one-told-once k c op r = no-second (λ s h. h)
+pub one-told-once : (k : Common) (c : ℕ) (r : Headed) → Once OneStepped (λ s. s ≡ oneTaken k c r)
+one-told-once k c r = no-second (λ s h. h)
 
 pub pending-at-once : (self : Heads) (c : ℕ) → Once Bool (λ r. r ≡ pendingOf (headAt self c .flags) (headAt self c .regs .intmsk))
 pending-at-once self c = no-second (λ r h. h)
@@ -33,6 +33,12 @@ with-mask-once self mask = no-second (λ r h. h)
 pub with-key-once : (self : Heads) (key : Bool)
     → Once Heads (λ r. r ≡ record { channels = self .channels; common = record { be = self .common .be; mask = self .common .mask; key = key } })
 with-key-once self key = no-second (λ r h. h)
+
+pub forget-once : (self : Heads) (t : Target) → Once Heads (λ r. r ≡ headsLeft t self)
+forget-once self t = no-second (λ r h. h)
+
+pub keyed-once : (self : Heads) → Once Bool (λ r. r ≡ keyedOf self)
+keyed-once self = no-second (λ r h. h)
 
 pub unarmed-once : (self : Heads) → Once Bool (λ r. r ≡ unarmedOf self)
 unarmed-once self = no-second (λ r h. h)

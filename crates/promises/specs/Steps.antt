@@ -9,8 +9,9 @@ use Rattle.steps.specs.declared.map.Ctrl.{Ctrl}
 use Rattle.steps.specs.declared.map.Op.{Op}
 use Rattle.steps.specs.declared.map.Step.{Step}
 use Rattle.steps.specs.declared.map.Target.{Target}
+use Rattle.steps.specs.declared.map.Wide.{Wide}
 use Rattle.steps.specs.Answer.{quiet, onlyAt}
-use Rattle.steps.specs.Keys.{ctrlpresetOf, keyKept}
+use Rattle.steps.specs.Keys.{ctrlpresetOf, opWrites, wideWrites}
 use Rattle.steps.specs.Map.{targetOf}
 use Rattle.steps.specs.Facts.{InPart}
 use Rattle.promises.specs.Promise.{Once, no-second}
@@ -26,8 +27,11 @@ act-at-once c action = no-second (λ r h. h)
 pub is-ctrlpreset-once : (reg : Ctrl) → Once Bool (λ r. r ≡ ctrlpresetOf reg)
 is-ctrlpreset-once reg = no-second (λ r h. h)
 
-pub key-kept-once : (op : Op) (key : Bool) → Once Bool (λ r. r ≡ keyKept op key)
-key-kept-once op key = no-second (λ r h. h)
+pub op-writes-once : (op : Op) → Once Bool (λ r. r ≡ opWrites op)
+op-writes-once op = no-second (λ r h. h)
+
+pub wide-writes-once : (t : Wide) → Once Bool (λ r. r ≡ wideWrites t)
+wide-writes-once t = no-second (λ r h. h)
 
 -- ---- map.rt
 pub target-of-once : (s : Step) → Once Target (λ r. (r ≡ targetOf s) × InPart r)

@@ -3,6 +3,7 @@ use Prim.Native.Nat.{ℕ, _<_}
 use mathlib.Core.List.{List}
 use Rattle.steps.specs.declared.map.Target.{Target}
 use Rattle.steps.specs.declared.map.Target.the-variants.{One as OneTarget, All as AllTarget}
+use Rattle.steps.specs.declared.map.Wide.the-variants.{Beyond}
 use Rattle.steps.specs.Map.{targetOf}
 use Rattle.part.specs.declared.state.Part.{Part}
 use Rattle.part.specs.declared.state.PartStepped.{PartStepped}
@@ -27,6 +28,15 @@ aimOf Unreadable = Others Unread
 abbrev pub InAim : Aim → Type 0
 InAim (One op c) = c < 3
 InAim (Others t) = Unit {0}
+
+-- whom it concerns; what can't be read concerns none
+abbrev pub restTarget : Rest → Target
+restTarget (All t) = AllTarget t
+restTarget Unread = AllTarget Beyond
+
+abbrev pub aimTarget : Aim → Target
+aimTarget (One op c) = OneTarget op c
+aimTarget (Others t) = restTarget t
 
 -- what is no step of one channel: a line that can't be read is no. 8, and leaves the part
 abbrev pub restServed : Part → Rest → PartStepped

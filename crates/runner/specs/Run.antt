@@ -1,6 +1,8 @@
 -- What a line of the script does: a step of the part, by the rules of demand 3's run (crate independent, `thePart`), with an answer to what can't be read.
 use Prim.Native.Nat.{ℕ}
+use mathlib.Core.Bool.{false}
 use mathlib.Core.List.{List}
+use mathlib.Core.Path.{_≡_}
 use Rattle.steps.specs.declared.map.Target.{Target}
 use Rattle.steps.specs.declared.map.Target.the-variants.{All}
 use Rattle.steps.specs.declared.map.Wide.the-variants.{Beyond}
@@ -8,7 +10,7 @@ use Rattle.steps.specs.declared.answer.PartAnswer.{PartAnswer}
 use Rattle.steps.specs.Map.{targetOf}
 use Rattle.part.specs.declared.state.Part.{Part}
 use Rattle.mixes.specs.Mix.{Machine}
-use Rattle.independent.specs.Statement.{State, thePart}
+use Rattle.independent.specs.Statement.{State, presetWritten, thePart}
 use Rattle.script.specs.declared.reading.Line.{Line}
 use Rattle.script.specs.declared.reading.Line.the-variants.{Readable, Unreadable}
 use Rattle.script.specs.Grammar.{lineOf}
@@ -40,6 +42,10 @@ lineTarget Unreadable = All Beyond
 
 abbrev pub lineAim : List ℕ → Target
 lineAim l = lineTarget (lineOf l)
+
+-- the line does not write to a PRESET
+abbrev pub LineSparesPreset : List ℕ → Type 0
+LineSparesPreset l = presetWritten (lineAim l) ≡ false
 
 -- the script as a machine: a step is the bytes of a line
 abbrev pub theScript : Machine State (List ℕ) PartAnswer

@@ -1,4 +1,4 @@
--- DEMAND 3 and request One, of script lines. Demand 3: any mix of three channels' lines, against list 0, then 1, then 2; and so any lines of channels, in any order. `Independent` says it
+-- DEMAND 3 and request One, of script lines. Demand 3: any mix of three channels' lines that do not write to a PRESET, against list 0, then 1, then 2; and so any such lines of channels, in any order. `Independent` says it
 -- of the state, of INT at the end, and of each line's answer. Numbers of steps and INT after a single line depend on the order.
 use Prim.Native.Nat.{ℕ, _<_, _≤_}
 use mathlib.Core.Bool.{true}
@@ -13,7 +13,7 @@ use Rattle.frames.specs.Deeds.{asksBy}
 use Rattle.frames.specs.Wire.{spent, faults}
 use Rattle.frames.specs.Statement.{channelOf, boundOf, Begun, logOf, frameOf, Frame, Begins}
 use Rattle.frames.specs.Theorem.{frames, frame-bound, begins}
-use Rattle.runner.specs.Run.{theScript, lineAim}
+use Rattle.runner.specs.Run.{theScript, lineAim, LineSparesPreset}
 use Rattle.runner.specs.Text.{Desk, afterAll, afterOne}
 use Rattle.runner.specs.Laws.Run.{script-apart, script-follows}
 
@@ -21,13 +21,13 @@ use Rattle.runner.specs.Laws.Run.{script-apart, script-follows}
 abbrev pub LineOf : ℕ → List ℕ → Type 0
 LineOf c l = theScript .owner l ≡ c
 
-pub mixed-lines : (s : State) → Accepted s → (k l n m : List (List ℕ)) → Mix (List ℕ) k l n m
-    → All (LineOf 0) k → All (LineOf 1) l → All (LineOf 2) n → Independent theScript s k l n m
-mixed-lines = mixed theScript script-apart LineOf (λ c l h e. e)
+pub mixed-lines : (s : State) → Accepted s → (k l n m : List (List ℕ)) → Mix (List ℕ) k l n m → All (LineOf 0) k → All (LineOf 1) l → All (LineOf 2) n
+    → All LineSparesPreset k → All LineSparesPreset l → All LineSparesPreset n → Independent theScript s k l n m
+mixed-lines = mixed theScript LineSparesPreset script-apart LineOf (λ c l h e. e)
 
-pub lines-in-any-order : (s : State) → Accepted s → (m : List (List ℕ)) → All (OfSome theScript) m
+pub lines-in-any-order : (s : State) → Accepted s → (m : List (List ℕ)) → All (OfSome theScript) m → All LineSparesPreset m
     → Independent theScript s (stepsOf theScript 0 m) (stepsOf theScript 1 m) (stepsOf theScript 2 m) m
-lines-in-any-order = any-order theScript script-apart
+lines-in-any-order = any-order theScript LineSparesPreset script-apart
 
 -- REQUEST ONE, of script lines: what is promised of a frame holds whatever lines follow its begin, those that can't be read too; and a line that asks for a frame
 -- leads where a step does

@@ -6,7 +6,7 @@ ghost use lib.ListN.{length};
 ghost use Rattle.steps.specs.Facts.{InPart};
 ghost use Rattle.part.specs.Rows.{rowsIn, rowsLeft, found, Ready, Gives};
 ghost use Rattle.part.specs.Facts.{Whole};
-ghost use Rattle.runner.specs.Performing.{aimAt, aimOf, InAim, restServed, restStored};
+ghost use Rattle.runner.specs.Performing.{aimAt, aimOf, InAim, restTarget, aimTarget, restServed, restStored};
 ghost use Rattle.runner.specs.Text.{numberAfter};
 ghost use Rattle.runner.specs.Feeding.{Room, Answered};
 use crate::lines::line_end;
@@ -54,6 +54,25 @@ fn aim_of(line: Line) -> Aim
     match line {
         Line::Readable(s) => aim_at(steps::target_of(s)),
         Line::Unreadable => Aim::Others(Rest::Unread),
+    }
+}
+
+// Whom it concerns; a line that can't be read concerns none.
+fn aim_target(a: Aim) -> Target
+    ensures { λ r. ⌜ r ≡ aimTarget a ⌝ }
+{
+    match a {
+        Aim::One(op, c) => Target::One(op, c),
+        Aim::Others(t) => rest_target(t),
+    }
+}
+
+fn rest_target(t: Rest) -> Target
+    ensures { λ r. ⌜ r ≡ restTarget t ⌝ }
+{
+    match t {
+        Rest::All(w) => Target::All(w),
+        Rest::Unread => Target::All(Wide::Beyond),
     }
 }
 
@@ -116,6 +135,11 @@ pub fn answer_lines(s: Course, block: &[u8], mem: &mut [u8], out: &mut [u8]) -> 
     while has_lf(end, block.len()) {
         let l = script::read_line(&block[from..end]);
         let a = aim_of(l);
+        // heads that come back are a copy, and where no key is pending none is forgotten
+        if heads.keyed() {
+            let left = heads.forget(aim_target(a));
+            heads = left;
+        }
         let mut answer = answers::unreadable();
         match a {
             Aim::One(op, c) => {

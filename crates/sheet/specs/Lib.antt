@@ -2,3 +2,4 @@ pub mod Model
 pub mod Run
 pub mod Sheet
 pub mod Tight
+pub mod Premise

@@ -20,7 +20,7 @@ use Rattle.channel.specs.Wires.{sentTo, passed, startedBy, started, cleared, be
 use Rattle.channel.specs.Wires.{countedOne, sendOn, ackAddress, receiveOn, received, failedBy, nacked, turned}
 use Rattle.part.specs.Registers.{ctrlRead}
 use Rattle.part.specs.State.{wiped, window, putWindow}
-use Rattle.part.specs.Step.{oneStep, oneBytes, allServed, allStored, partServed, partStored, channelsIn, partIn, accepts, partStep, partBytes}
+use Rattle.part.specs.Step.{oneStep, oneBytes, allServed, allStored, targetServed, targetStored, forgetting, partServed, partStored, channelsIn, partIn, accepts, partStep, partBytes}
 use Rattle.works.specs.State.{State}
 
 -- a model: what a step is answered in a state, and the state after it
@@ -46,7 +46,7 @@ unfolding if_then_else_
     channelAt ctrlAt writeTarget readTarget wireTarget targetOf
     ctrlRead
     wiped window putWindow
-    oneStep oneBytes allServed allStored partServed partStored channelsIn partIn accepts partStep partBytes
+    oneStep oneBytes allServed allStored targetServed targetStored forgetting partServed partStored channelsIn partIn accepts partStep partBytes
 thePart = record {
   answer = λ u s. partStep (u .part) (u .memory) s .answer;
   after = λ u s. record {

@@ -1,3 +1,4 @@
 -- Laws of works. Nothing here needs to be believed: it is proved.
+pub mod Keys
 pub mod Work
 pub mod Op

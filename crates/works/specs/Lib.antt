@@ -1,3 +1,4 @@
 pub mod State
+pub mod Keys
 pub mod Work
 pub mod Laws

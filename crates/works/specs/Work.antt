@@ -1,8 +1,9 @@
 -- A work is a step of one channel, whatever it is, with what a buffer of its own holds. It sees what is the channel's own and nothing else. This page
 -- says what a work is, and what its call does to the part.
 use Prim.Native.Nat.{ℕ}
-use mathlib.Core.Bool.{Bool, false}
+use mathlib.Core.Bool.{Bool}
 use mathlib.Core.List.{List}
+use mathlib.Core.Path.{_≡_}
 use lib.Dec.{ltb}
 use lib.ListN.{length}
 use Rattle.laws.specs.Pick.{if_then_else_}
@@ -12,7 +13,8 @@ use Rattle.head.specs.declared.state.Answer.{Answer}
 use Rattle.channel.specs.declared.state.Channel.{Channel}
 use Rattle.channel.specs.Facts.{Accepted}
 use Rattle.heads.specs.Heads.{answerAt}
-use Rattle.part.specs.State.{chan, window, putWindow, refusedPart}
+use Rattle.part.specs.declared.state.Part.{Part}
+use Rattle.part.specs.State.{chan, window, putWindow, refusedPart, keyless, forgotten}
 use Rattle.part.specs.Step.{oneAfter, accepts}
 use Rattle.works.specs.State.{State}
 
@@ -23,6 +25,10 @@ pub record Own : Type 0 where
   pub channel : Channel
   pub bytes : List ℕ
 
+-- the same with no A5h pending
+abbrev pub unkeyed : Own → Own
+unkeyed o = record { channel = keyless (o .channel); bytes = o .bytes }
+
 -- the record is in range, and the bytes are 4,352
 abbrev pub Sound : Own → Type 0
 Sound o = Accepted (o .channel) (o .bytes)
@@ -32,14 +38,17 @@ pub record Given : Type 0 where
   pub answer : Answer
   pub out : List ℕ
 
--- a work: what its buffer holds at the call (`lent`), what it makes of the channel's own (`after`), what it gives (`gives`), whether it keeps CTRLPRESET's
--- key, as a write does not (`keepsKey`), and that it leads neither out of range nor to another number of bytes (`keeps`)
+-- a work: what its buffer holds at the call (`lent`), what it makes of the channel's own (`after`), what it gives (`gives`), whether it is a write to the part
+-- (`writes`); that it leads neither out of range nor to another number of bytes (`keeps`), and that the channel's key is nothing to it: where that was
+-- forgotten before, it does the same (`unkeys`) and gives the same (`blind`). So a write to PRESET is no work
 pub record Work : Type 0 where
   pub lent : List ℕ
   pub after : Own → Own
   pub gives : Own → Given
-  pub keepsKey : Bool
+  pub writes : Bool
   pub keeps : (o : Own) → Sound o → Sound (after o)
+  pub unkeys : (o : Own) → after (unkeyed o) ≡ unkeyed (after o)
+  pub blind : (o : Own) → gives (unkeyed o) ≡ gives o
 
 -- ---- on the part
 
@@ -47,16 +56,20 @@ pub record Work : Type 0 where
 abbrev pub ownOf : State → ℕ → Own
 ownOf s c = record { channel = chan (s .part) c; bytes = window c (s .memory) }
 
--- the state with o as channel c's own, after an answer of this number, and CTRLPRESET's key kept or forgotten
+-- the part where a work of channel c finds it: a write has forgotten every other key
+abbrev pub leftFor : Part → ℕ → Bool → Part
+leftFor p c writes = if writes then forgotten p c else p
+
+-- the state with o as channel c's own, after an answer of this number
 abbrev pub ownPut : State → ℕ → Own → ℕ → Bool → State
-ownPut s c o number keepsKey = record {
-  part = oneAfter (s .part) c (o .channel) (record { be = beAfter (s .part .be) number; mask = s .part .mask; key = if keepsKey then s .part .key else false });
+ownPut s c o number writes = record {
+  part = let p = leftFor (s .part) c writes in oneAfter p c (o .channel) (record { be = beAfter (p .be) number; mask = p .mask; key = p .key });
   memory = putWindow c (o .bytes) (s .memory);
 }
 
 -- the state after a work of channel c, and what it gives
 unfoldable pub workAfter : State → ℕ → Work → State
-workAfter s c w = let o = ownOf s c in ownPut s c (w .after o) (w .gives o .answer .number) (w .keepsKey)
+workAfter s c w = let o = ownOf s c in ownPut s c (w .after o) (w .gives o .answer .number) (w .writes)
 
 unfoldable pub workGives : State → ℕ → Work → Given
 workGives s c w = w .gives (ownOf s c)

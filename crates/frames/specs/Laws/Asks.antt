@@ -36,8 +36,9 @@ use Rattle.head.specs.Head.{framecntOf}
 use Rattle.channel.specs.declared.state.Channel.{Channel}
 use Rattle.part.specs.declared.state.Part.{Part}
 use Rattle.part.specs.State.{chan}
+use Rattle.independent.specs.Laws.Keys.{no}
 use Rattle.frames.specs.Deeds.{runsOf, placeResets, opResets, resetsBy, askBegins, askAt, isControl, turnBegins, beatBegins, placeBegins, opBegins, asksBy, beginsBy}
-use Rattle.frames.specs.Laws.Steps.{no, Mild, mild, edge-holds}
+use Rattle.frames.specs.Laws.Steps.{Mild, mild, edge-holds}
 use Rattle.frames.specs.Laws.View.{split}
 use Rattle.frames.specs.Laws.Rests.{is-control}
 

@@ -28,17 +28,17 @@ use Rattle.channel.specs.declared.state.Stepped.{Stepped}
 use Rattle.channel.specs.State.{Served}
 use Rattle.channel.specs.Wires.{slaveOf, byteSent, sendOn, ackAddress, countedOne, ackSending, receiveOn, received, turned}
 use Rattle.channel.specs.Step.{eventAt, servedBy}
-use Rattle.part.specs.Step.{oneStep, partServed}
+use Rattle.part.specs.Step.{oneStep, targetServed, forgetting, partServed}
 use Rattle.part.specs.Laws.Range.{step-accepted}
 use Rattle.mixes.specs.Mix.{Machine}
 use Rattle.independent.specs.Statement.{State, Accepted, thePart}
+use Rattle.independent.specs.Laws.Keys.{no}
 use Rattle.frames.specs.Wire.{Heard, costOf}
 use Rattle.frames.specs.Wire.Heard.{event}
 use Rattle.frames.specs.Deeds.{runsOf, resetsBy, asksBy}
 use Rattle.frames.specs.Statement.{channelOf, bufferOf, Awaits, Leads, Begins, Rested}
 use Rattle.frames.specs.Statement.Leads.{begun as begun′, skipped as skipped′, empty as empty′, unfit as unfit′}
 use Rattle.frames.specs.Laws.Behind.{finished-behind}
-use Rattle.frames.specs.Laws.Steps.{no}
 use Rattle.frames.specs.Laws.Rests.{Starts, Started, head-begun, Rests, Outside}
 use Rattle.frames.specs.Laws.Rests.Starts.{first, skipped, empty, unfit}
 use Rattle.frames.specs.Laws.Rests.Outside.{rests, asks}
@@ -92,7 +92,7 @@ awaited-cost Waiting = refl
 -- an event of channel c is answered as the channel answers it
 event-number : (c : ℕ) (s : State) (e : Event) → c < 3 → Accepted s
     → thePart .answer s (Wire c e) .number ≡ turned (channelOf c s) (bufferOf c s) (turnAt (channelOf c s .head) e) .stepped .answer .number
-unfolding targetOf wireTarget partServed oneStep servedBy eventAt if_then_else_
+unfolding targetOf wireTarget partServed targetServed forgetting oneStep servedBy eventAt if_then_else_
 event-number c s e low acc = rw (step-accepted (s .part) (s .memory) (Wire c e) acc, lt-ltb c 3 low, le-ltb 2 c (omega (arith, low)))
 
 pub awaits : (c : ℕ) (s : State) → c < 3 → Accepted s → runsOf (channelOf c s .head .walk .phase) ≡ true → Awaits c s
@@ -124,7 +124,7 @@ module _ {A : Type 0} (M : Machine State A PartAnswer) (aim : A → Target) (f :
   begins s a acc inside e =
       let q = asks-unreset c (s .part) (aim a) e in
       let t = feels M aim f c low s a acc inside q in
-      let x = asked s _ _ _ (felt-outside (s .part) (bufferOf c s) c low (calm s a e _ refl) (aim a) q) e in
+      let x = asked s _ _ _ (felt-outside (s .part) (bufferOf c s) c low (aim a) q (calm s a e _ refl)) e in
       record {
         slas = rw (t .is) (x .0 .slas);
         lengths = rw (t .is) (x .0 .lengths);
@@ -141,5 +141,5 @@ module _ {A : Type 0} (M : Machine State A PartAnswer) (aim : A → Target) (f :
       → asksBy c (s .part) (aim a) ≡ false → resetsBy c (s .part) (aim a) ≡ false → Rested M aim c s a
   rested s a acc inside r e q =
       let t = feels M aim f c low s a acc inside q in
-      let x = rests-only s _ _ _ (felt-outside (s .part) (bufferOf c s) c low r (aim a) q) e in
+      let x = rests-only s _ _ _ (felt-outside (s .part) (bufferOf c s) c low (aim a) q r) e in
       record { runs = rw (t .is) (x .runs); counts = rw (t .is) (x .counted); action = rw (t .action) (x .action) }

@@ -12,13 +12,13 @@ use Rattle.steps.specs.declared.answer.PartAnswer.{PartAnswer}
 use Rattle.channel.specs.Wires.{bytesOf}
 use Rattle.mixes.specs.Mix.{Machine, ends}
 use Rattle.independent.specs.Statement.{State, Accepted}
+use Rattle.independent.specs.Laws.Keys.{no}
 use Rattle.frames.specs.Wire.{Watch, spent, endsOf, watchAfter, dataHeard, oneOf, acknowledged}
 use Rattle.frames.specs.Deeds.{runsOf, resetsBy, asksBy, mayBegin, beginsBy}
 use Rattle.frames.specs.Statement.{channelOf, bufferOf, entryAt, logOf, frameOf, untilNext, Quiet}
 use Rattle.frames.specs.Laws.Goes.{one-none}
 use Rattle.frames.specs.Laws.Rests.{Unheard, none-begins, unheard-outside}
 use Rattle.frames.specs.Laws.View.{felt-outside}
-use Rattle.frames.specs.Laws.Steps.{no}
 use Rattle.frames.specs.Laws.Runs.{Follows, both-hold, feels, Holding, one}
 
 -- a test that holds or not
@@ -47,7 +47,7 @@ module _ {A : Type 0} (M : Machine State A PartAnswer) (aim : A → Target) (f :
   unfolding beginsBy
   idles s a h e b =
       let t = feels M aim f c low s a (h .accepted) (h .inside) e in
-      let o = felt-outside (s .part) (bufferOf c s) c low (h .calm) (aim a) e in
+      let o = felt-outside (s .part) (bufferOf c s) c low (aim a) e (h .calm) in
       let r = none-begins (channelOf c s) (bufferOf c s) _ _ _ o (not-both (asksBy c (s .part) (aim a)) (mayBegin (channelOf c s)) b) in
       record {
         resting = record { accepted = t .accepted; inside = rw (t .size) (h .inside); calm = rw (t .is) (r .runs) };

@@ -24,13 +24,13 @@ use Rattle.channel.specs.Step.{writeAt, servedBy}
 use Rattle.part.specs.declared.state.Part.{Part}
 use Rattle.part.specs.Registers.{ctrlPut}
 use Rattle.part.specs.State.{blank, chan, freshPart}
-use Rattle.part.specs.Step.{oneStep, allServed, partServed}
+use Rattle.part.specs.Step.{oneStep, allServed, targetServed, forgetting, partServed}
 use Rattle.mixes.specs.Mix.{Machine}
 use Rattle.independent.specs.Statement.{State, Accepted}
+use Rattle.independent.specs.Laws.Keys.{no}
 use Rattle.frames.specs.Deeds.{placeResets, opResets, resetsBy}
 use Rattle.frames.specs.Statement.{channelOf}
-use Rattle.frames.specs.Laws.Steps.{no}
-use Rattle.frames.specs.Laws.View.{split}
+use Rattle.frames.specs.Laws.View.{split, left-size, resets-left}
 use Rattle.frames.specs.Laws.Runs.{Follows}
 
 place-resets : (c : Channel) (m : List ℕ) (p : Place) (v : ℕ) → placeResets c p v ≡ true → writeAt c m p v .stepped .channel ≡ fresh
@@ -52,19 +52,23 @@ fresh-at (suc (suc (suc c))) h = absurd (omega (arith, h))
 
 module _ (p : Part) (m : List ℕ) (c : ℕ) (low : c < 3) (inside : c < length (p .channels)) where
   ResetAt : Target → Type 0
-  ResetAt t = resetsBy c p t ≡ true → chan (partServed p m t .part) c ≡ fresh
+  ResetAt t = resetsBy c p t ≡ true → chan (targetServed p m t .part) c ≡ fresh
 
-  resets-fresh : (t : Target) → resetsBy c p t ≡ true → chan (partServed p m t .part) c ≡ fresh
-  unfolding ResetAt resetsBy partServed allServed oneStep ctrlPut if_then_else_
-  resets-fresh (One op d) e =
+  target-fresh : (t : Target) → resetsBy c p t ≡ true → chan (targetServed p m t .part) c ≡ fresh
+  unfolding ResetAt resetsBy targetServed allServed oneStep ctrlPut if_then_else_
+  target-fresh (One op d) e =
       split c ResetAt
       (λ op e. let q = eq-eqb c c refl in getD-set-same (p .channels) c _ blank inside ∙ op-resets (chan p c) _ c op (rw q at e))
       (λ op d q e. no (rw q at e)) op d e
-  resets-fresh (All (CtrlWrite reg v)) e = rw e (fresh-at c low)
-  resets-fresh (All (CtrlRead reg)) e = no e
-  resets-fresh (All (AllTrigger edge)) e = no e
-  resets-fresh (All AllReset) e = fresh-at c low
-  resets-fresh (All Beyond) e = no e
+  target-fresh (All (CtrlWrite reg v)) e = rw e (fresh-at c low)
+  target-fresh (All (CtrlRead reg)) e = no e
+  target-fresh (All (AllTrigger edge)) e = no e
+  target-fresh (All AllReset) e = fresh-at c low
+  target-fresh (All Beyond) e = no e
+
+resets-fresh : (p : Part) (m : List ℕ) (c : ℕ) → c < 3 → c < length (p .channels) → (t : Target) → resetsBy c p t ≡ true → chan (partServed p m t .part) c ≡ fresh
+unfolding partServed
+resets-fresh p m c low inside t e = target-fresh (forgetting t p) m c low (rw (left-size p c t) inside) t (resets-left p c t ∙ e)
 
 pub resets : {A : Type 0} (M : Machine State A PartAnswer) (aim : A → Target) → Follows M aim → (c : ℕ) → c < 3 → (s : State) (a : A) → Accepted s → c < length (s .part .channels)
     → resetsBy c (s .part) (aim a) ≡ true → channelOf c (M .after s a) ≡ fresh

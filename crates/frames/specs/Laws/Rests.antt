@@ -15,6 +15,7 @@ use Rattle.rules.specs.declared.registers.Register.{Register}
 use Rattle.rules.specs.declared.registers.Register.the-variants.{Status, Control, Chstatus, Intmsk, Slatable, Tranconfig, Data, Transel, Tranofs, Bytecount, Setting, Preset}
 use Rattle.rules.specs.declared.registers.Place.{Place}
 use Rattle.rules.specs.declared.registers.Place.the-variants.{Here, Elsewhere}
+use Rattle.rules.specs.Access.{presetOf, keyAfter}
 use Rattle.rules.specs.Numbers.{nowhere, notAwaited}
 use Rattle.rules.specs.Registers.{placeOf}
 use Rattle.rules.specs.Tables.{fitting, skippedOf, sentFrom}
@@ -48,11 +49,13 @@ use Rattle.channel.specs.State.{Served, leaving, on, guarded, countOf, withHead
 use Rattle.channel.specs.Access.{asked, controlled, writtenBy, writeOf, keyed, putOf}
 use Rattle.channel.specs.Wires.{slaveOf, passed, sentTo, startedBy, started, cleared, beganBy, begun, turned, beaten, triggered}
 use Rattle.channel.specs.Step.{writeAt, readAt, eventAt, servedBy}
+use Rattle.works.specs.Laws.Keys.{rekeyed}
+use Rattle.independent.specs.Laws.Keys.{no}
 use Rattle.frames.specs.Wire.{Heard, Watch, costOf, dataHeard}
 use Rattle.frames.specs.Wire.Heard.{none}
 use Rattle.frames.specs.Deeds.{runsOf, heardOp, placeResets, opResets, askBegins, turnBegins, beatBegins, isControl, regBegins, placeBegins, opBegins, fitOf, mayBegin}
 use Rattle.frames.specs.Statement.{firstOf}
-use Rattle.frames.specs.Laws.Steps.{no, read-stays, edge-holds, ended-runs}
+use Rattle.frames.specs.Laws.Steps.{read-stays, edge-holds, ended-runs}
 
 -- ---- where a begin leads; it leaves the tables
 pub data Starts (c : Channel) (r : Stepped) : Type 0 where
@@ -271,16 +274,16 @@ module _ (c : Channel) (m : List ℕ) (calm : runsOf (c .head .walk .phase) ≡ 
   pub same-outside : Access (leaving m (on c (plain (c .head)))) false
   same-outside = rests (idle (c .head) _ _ calm) nothing-heard
 
--- a write does not look at the key: what it makes of the record with another key, it makes of this one
-keyed-outside : (c : Channel) (m : List ℕ) (reg : Register) (v : ℕ) (h : Heard) (d : Served) (b : Bool) → Outside (keyed c reg v) m h d b → Outside c m h d b
-keyed-outside c m reg v h d false (rests r u) = rests (record { counted = r .counted; runs = r .runs; action = r .action }) u
-keyed-outside c m reg v h d true (asks x e u) = asks x e u
+-- the key is nothing to it: what comes of the record with another key comes of this one
+pub rekeyed-outside : (k : Bool) (c : Channel) (m : List ℕ) (h : Heard) (d : Served) (b : Bool) → Outside (rekeyed k c) m h d b → Outside c m h d b
+rekeyed-outside k c m h d false (rests r u) = rests (record { counted = r .counted; runs = r .runs; action = r .action }) u
+rekeyed-outside k c m h d true (asks x e u) = asks x e u
 
 -- ---- a step of channel `number` that does not reset it
 module _ (c : Channel) (m : List ℕ) (number : ℕ) (low : number < 3) (calm : runsOf (c .head .walk .phase) ≡ false) where
   place-outside : (p : Place) (v : ℕ) → placeResets c p v ≡ false → Outside c m none (writeAt c m p v) (placeBegins c p v)
   unfolding writeAt putOf if_then_else_
-  place-outside (Here reg) v e = rw e (keyed-outside c m reg v none _ _ (write-outside (keyed c reg v) m calm reg v))
+  place-outside (Here reg) v e = rw e (rekeyed-outside (keyAfter (presetOf reg) v) c m none _ _ (write-outside (keyed c reg v) m calm reg v))
   place-outside Elsewhere v e = rests (kept c m calm nowhere) nothing-heard
 
   pub own-outside : (op : Op) → opResets c number op ≡ false

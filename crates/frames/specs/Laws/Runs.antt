@@ -181,7 +181,7 @@ module _ {A : Type 0} (M : Machine State A PartAnswer) (aim : A → Target) (f :
   entry s a = entryAt M aim c s a
 
   abbrev feltAt : State → A → Served
-  feltAt s a = felt (channelOf c s) (bufferOf c s) c (aim a)
+  feltAt s a = felt (s .part) (bufferOf c s) c (aim a)
 
   -- a step of the machine, as channel c feels it
   pub record Feels (s : State) (a : A) (d : Served) : Type 0 where
@@ -245,7 +245,7 @@ module _ {A : Type 0} (M : Machine State A PartAnswer) (aim : A → Target) (f :
         frame = range-frame (channelOf c s) ranged;
         runs = r;
       } in
-      let g = felt-goes (s .part) (bufferOf c s) c low w u (aim a) e in
+      let g = felt-goes (s .part) (bufferOf c s) c low (aim a) e w u in
       let slas : channelOf c (M .after s a) .slatable ≡ channelOf c s .slatable = rw (t .is) (g .slas) in
       let moment : Carries (channelOf c s .slatable) (channelOf c s .tranconfig) (bufferOf c s) w (entry s a .action) = rw (t .action) (g .moment) in
       let counts : (k : ℕ) → bytesOf (channelOf c (M .after s a)) k ≡ bytesOf (channelOf c s) k + oneOf (dataHeard w (entry s a .heard)) (w .at) k = λ k. rw (t .is, t .heard) (g .counts k) in

@@ -13,10 +13,10 @@ use Rattle.channel.specs.Wires.{bytesOf}
 use Rattle.part.specs.State.{blank}
 use Rattle.mixes.specs.Mix.{Machine}
 use Rattle.independent.specs.Statement.{State}
+use Rattle.independent.specs.Laws.Keys.{no}
 use Rattle.frames.specs.Deeds.{runsOf}
 use Rattle.frames.specs.Statement.{channelOf, Begun, startWatch, boundOf}
 use Rattle.frames.specs.Laws.Behind.{leftOf}
-use Rattle.frames.specs.Laws.Steps.{no}
 use Rattle.frames.specs.Laws.Runs.{Follows, Holding, Tally, leftAt}
 
 -- a channel in a frame is one of the part's

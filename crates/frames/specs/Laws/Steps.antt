@@ -8,7 +8,7 @@ use borrow.Author.Tests.{ltb-true, eqb-true, eq-eqb}
 use lib.Dec.{eqb, ltb}
 use lib.ListN.{length}
 use Rattle.laws.specs.Pick.{if_then_else_}
-use Rattle.laws.specs.Cases.{pick-holds, both, past, false-not-true}
+use Rattle.laws.specs.Cases.{pick-holds, both, past}
 use Rattle.rules.specs.declared.state.Phase.{Phase}
 use Rattle.rules.specs.declared.state.Phase.the-variants.{Idle, Address, Sending, Receiving, Stopping, Waiting}
 use Rattle.rules.specs.declared.state.Walk.{Walk}
@@ -54,6 +54,7 @@ use Rattle.channel.specs.State.{Served, leaving, on, guarded, countOf, withHead
 use Rattle.channel.specs.Access.{readBy, readOf, asked, controlled, writtenBy, writeOf, keyed, putOf}
 use Rattle.channel.specs.Wires.{slaveOf, bytesOf, lengthOf, turned, beaten, triggered}
 use Rattle.channel.specs.Step.{writeAt, readAt, eventAt, servedBy}
+use Rattle.independent.specs.Laws.Keys.{no}
 use Rattle.frames.specs.Wire.{Heard, Watch, costOf, faultOf, endsOf, dataHeard}
 use Rattle.frames.specs.Wire.Heard.{none, event}
 use Rattle.frames.specs.Deeds.{runsOf, heardOp, placeResets, opResets}
@@ -75,9 +76,6 @@ head-stays : (c : Channel) (m : List ℕ) (r : Stepped) → r .channel .slatable
 head-stays c m r s l k f a = record { slas = s; lengths = l; counted = k; phase = f; action = a; bytes = refl }
 
 -- ---- a phase in which a frame runs
-pub no : {A : Type 0} → false ≡ true → A
-no e = absurd (let z = false-not-true e in omega (arith, z))
-
 runs-active : (p : Phase) → runsOf p ≡ true → activeOf p ≡ false → ⊥
 runs-active Idle e f = no e
 runs-active (Address n) e f = no (sym f)

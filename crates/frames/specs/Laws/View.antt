@@ -10,6 +10,8 @@ use lib.Dec.{eqb}
 use lib.ListN.{length, getD, take, drop, length-set}
 use lib.Seq.{getD-set-same, getD-set-other, take-at, drop-at, length-take-le}
 use Rattle.laws.specs.Pick.{if_then_else_}
+use Rattle.laws.specs.Cases.{pick-holds}
+use Rattle.rules.specs.declared.state.Phase.{Phase}
 use Rattle.rules.specs.Access.{keyAfter, resetsOf}
 use Rattle.rules.specs.Numbers.{bufferSize}
 use Rattle.rules.specs.declared.wires.Action.the-variants.{Nothing}
@@ -23,7 +25,7 @@ use Rattle.steps.specs.declared.map.Wide.{Wide}
 use Rattle.steps.specs.declared.map.Wide.the-variants.{CtrlWrite, CtrlRead, AllTrigger, AllReset, Beyond}
 use Rattle.steps.specs.declared.answer.Act.{Act}
 use Rattle.steps.specs.Facts.{InPart}
-use Rattle.steps.specs.Keys.{ctrlpresetOf}
+use Rattle.steps.specs.Keys.{ctrlpresetOf, opWrites, wideWrites}
 use Rattle.steps.specs.Answer.{quiet}
 use Rattle.head.specs.State.{plain}
 use Rattle.channel.specs.declared.state.Channel.{Channel}
@@ -34,17 +36,20 @@ use Rattle.part.specs.declared.state.Part.{Part}
 use Rattle.part.specs.declared.state.PartStepped.{PartStepped}
 use Rattle.part.specs.Facts.{Whole}
 use Rattle.part.specs.Registers.{ctrlRead, ctrlWritten, ctrlPut, ctrlStore}
-use Rattle.part.specs.State.{blank, chan, window, putWindow, withKey}
-use Rattle.part.specs.Step.{edgeChannel, edgeAct, oneStep, oneBytes, triggerStep, allServed, allStored, partServed, partStored}
+use Rattle.part.specs.State.{blank, chan, window, putWindow, withKey, forgotten}
+use Rattle.part.specs.Step.{edgeChannel, edgeAct, oneStep, oneBytes, triggerStep, allServed, allStored, targetServed, targetStored, forgetting, partServed, partStored}
 use Rattle.part.specs.Laws.Memory.{fits}
-use Rattle.part.specs.Laws.Kept.{one-length}
+use Rattle.part.specs.Laws.Kept.{one-length, left-whole}
+use Rattle.part.specs.Laws.Keys.{own-left, other-left, size-left}
 use Rattle.part.specs.Laws.Apart.{one-others}
+use Rattle.works.specs.Laws.Keys.{rekeyed}
+use Rattle.independent.specs.Laws.Keys.{no}
 use Rattle.frames.specs.Wire.{Heard, Watch}
 use Rattle.frames.specs.Deeds.{runsOf, heardBy, allResets, resetsBy, asksBy}
 use Rattle.frames.specs.Statement.{actionAt}
 use Rattle.frames.specs.Laws.Goes.{Goes}
-use Rattle.frames.specs.Laws.Steps.{no, Under, own-goes, edge-goes, other-goes}
-use Rattle.frames.specs.Laws.Rests.{Outside, own-outside, edge-outside, same-outside}
+use Rattle.frames.specs.Laws.Steps.{Under, own-goes, edge-goes, other-goes}
+use Rattle.frames.specs.Laws.Rests.{Outside, own-outside, edge-outside, same-outside, rekeyed-outside}
 
 -- ---- a step of one channel is its own or another's
 pub split : (c : ℕ) (Q : Target → Type 0) → ((op : Op) → Q (One op c)) → ((op : Op) (d : ℕ) → eqb d c ≡ false → Q (One op d)) → (op : Op) (d : ℕ) → Q (One op d)
@@ -68,9 +73,13 @@ feltAll c m (AllTrigger edge) = leaving m (triggered c edge)
 feltAll c m AllReset = unmoved c m
 feltAll c m Beyond = unmoved c m
 
-unfoldable pub felt : Channel → List ℕ → ℕ → Target → Served
-felt c m number (One op d) = if eqb d number then servedBy c m number op else unmoved c m
-felt c m number (All t) = feltAll c m t
+unfoldable pub feltBy : Channel → List ℕ → ℕ → Target → Served
+feltBy c m number (One op d) = if eqb d number then servedBy c m number op else unmoved c m
+feltBy c m number (All t) = feltAll c m t
+
+-- and before that its key may be forgotten
+abbrev pub felt : Part → List ℕ → ℕ → Target → Served
+felt p m c t = feltBy (chan (forgetting t p) c) m c t
 
 -- channel c of the part q with the memory n and these actions is what d says
 pub record Shows (c : ℕ) (q : Part) (n : List ℕ) (acts : List Act) (many : ℕ) (d : Served) : Type 0 where
@@ -172,53 +181,162 @@ module _ (p : Part) (m : List ℕ) (c : ℕ) (whole : Whole p m) (low : c < 3) (
   all AllReset e = no (sym e)
   all Beyond e = left _ refl
 
-  -- A STEP THAT DOES NOT RESET CHANNEL c is what the channel feels
+  -- a step served, that does not reset channel c
   SeenAt : Target → Type 0
-  SeenAt t = InPart t → resetsBy c p t ≡ false → Sees (partServed p m t) (partStored p m t) (felt (chan p c) (window c m) c t)
+  SeenAt t = InPart t → resetsBy c p t ≡ false → Sees (targetServed p m t) (targetStored p m t) (feltBy (chan p c) (window c m) c t)
 
-  pub seen : (t : Target) → InPart t → resetsBy c p t ≡ false → Sees (partServed p m t) (partStored p m t) (felt (chan p c) (window c m) c t)
-  unfolding SeenAt partServed partStored felt resetsBy if_then_else_
-  seen (One op d) h e = split c SeenAt (λ op h e. rw (own-eqb c) (own op)) (λ op d q h e. rw q (other d op h (eqb-false d c q))) op d h e
-  seen (All t) h e = all t e
+  target-seen : (t : Target) → InPart t → resetsBy c p t ≡ false → Sees (targetServed p m t) (targetStored p m t) (feltBy (chan p c) (window c m) c t)
+  unfolding SeenAt targetServed targetStored feltBy resetsBy if_then_else_
+  target-seen (One op d) h e = split c SeenAt (λ op h e. rw (own-eqb c) (own op)) (λ op d q h e. rw q (other d op h (eqb-false d c q))) op d h e
+  target-seen (All t) h e = all t e
 
   -- and what is heard of it
   HeardAt : Target → Type 0
-  HeardAt t = heardBy c t (partServed p m t .answer .number) ≡ heardBy c t (felt (chan p c) (window c m) c t .stepped .answer .number)
+  HeardAt t = heardBy c t (targetServed p m t .answer .number) ≡ heardBy c t (feltBy (chan p c) (window c m) c t .stepped .answer .number)
 
-  pub same-heard : (t : Target) → heardBy c t (partServed p m t .answer .number) ≡ heardBy c t (felt (chan p c) (window c m) c t .stepped .answer .number)
-  unfolding HeardAt partServed heardBy felt oneStep if_then_else_
-  same-heard (One op d) = split c HeardAt (λ op. rw (own-eqb c)) (λ op d q. rw q) op d
-  same-heard (All t) = refl
+  target-heard : (t : Target) → heardBy c t (targetServed p m t .answer .number) ≡ heardBy c t (feltBy (chan p c) (window c m) c t .stepped .answer .number)
+  unfolding HeardAt targetServed heardBy feltBy oneStep if_then_else_
+  target-heard (One op d) = split c HeardAt (λ op. rw (own-eqb c)) (λ op d q. rw q) op d
+  target-heard (All t) = refl
+
+-- ---- WHAT A STEP FORGETS before it is served: nothing of channel c but its key, and the keys by which this step resets it are left
+module _ (p : Part) (c : ℕ) where
+  pub record Left (x : Channel) : Type 0 where
+    pub key : Bool
+    pub is : x ≡ rekeyed key (chan p c)
+
+  same-left : Left (chan p c)
+  same-left = record { key = chan p c .head .key; is = refl }
+
+  but-left : (d : ℕ) → Left (chan (forgotten p d) c)
+  but-left d = go (eqb d c) refl
+    where
+      go : (b : Bool) → eqb d c ≡ b → Left (chan (forgotten p d) c)
+      go true e = let q = eqb-true d c e in rw (q, own-left p c) same-left
+      go false e = record { key = false; is = other-left p d c (eqb-false d c e) }
+
+  left-at : (t : Target) → Left (chan (forgetting t p) c)
+  unfolding forgetting
+  left-at (One op d) = pick-holds (λ (q : Part). Left (chan q c)) (opWrites op) (λ _. but-left d) (λ _. same-left)
+  left-at (All t) = pick-holds (λ (q : Part). Left (chan q c)) (wideWrites t) (λ _. but-left 3) (λ _. same-left)
+
+  pub left-size : (t : Target) → length (forgetting t p .channels) ≡ length (p .channels)
+  unfolding forgetting
+  left-size (One op d) = pick-holds (λ (q : Part). length (q .channels) ≡ length (p .channels)) (opWrites op) (λ _. size-left p d) (λ _. refl)
+  left-size (All t) = pick-holds (λ (q : Part). length (q .channels) ≡ length (p .channels)) (wideWrites t) (λ _. size-left p 3) (λ _. refl)
+
+  left-own : (op : Op) → chan (forgetting (One op c) p) c ≡ chan p c
+  unfolding forgetting
+  left-own op = pick-holds (λ (q : Part). chan q c ≡ chan p c) (opWrites op) (λ _. own-left p c) (λ _. refl)
+
+  ResetsLeft : Target → Type 0
+  ResetsLeft t = resetsBy c (forgetting t p) t ≡ resetsBy c p t
+
+  pub resets-left : (t : Target) → resetsBy c (forgetting t p) t ≡ resetsBy c p t
+  unfolding ResetsLeft forgetting resetsBy if_then_else_
+  resets-left (One op d) = split c ResetsLeft (λ op. rw (own-eqb c, left-own op)) (λ op d q. rw q) op d
+  resets-left (All (CtrlWrite reg v)) = refl
+  resets-left (All (CtrlRead reg)) = refl
+  resets-left (All (AllTrigger x)) = refl
+  resets-left (All AllReset) = refl
+  resets-left (All Beyond) = refl
+
+  AsksLeft : Target → Type 0
+  AsksLeft t = asksBy c (forgetting t p) t ≡ asksBy c p t
+
+  asks-left : (t : Target) → asksBy c (forgetting t p) t ≡ asksBy c p t
+  unfolding AsksLeft forgetting asksBy if_then_else_
+  asks-left (One op d) = split c AsksLeft (λ op. rw (own-eqb c, left-own op)) (λ op d q. rw q) op d
+  asks-left (All (CtrlWrite reg v)) = refl
+  asks-left (All (CtrlRead reg)) = refl
+  asks-left (All (AllTrigger x)) = refl
+  asks-left (All AllReset) = refl
+  asks-left (All Beyond) = refl
+
+-- A STEP THAT DOES NOT RESET CHANNEL c is what the channel feels
+module _ (p : Part) (m : List ℕ) (c : ℕ) (whole : Whole p m) (low : c < 3) (inside : c < length (p .channels)) (t : Target) where
+  within : c < length (forgetting t p .channels)
+  within = rw (left-size p c t) inside
+
+  pub seen : InPart t → resetsBy c p t ≡ false
+      → Shows c (partServed p m t .part) (partStored p m t) (partServed p m t .answer .actions) (length (p .channels)) (felt p (window c m) c t)
+  unfolding partServed partStored
+  seen h e =
+      let v = target-seen (forgetting t p) m c (left-whole p m t whole) low within t h (resets-left p c t ∙ e) in
+      record { is = v .is; bytes = v .bytes; action = v .action; size = v .size ∙ left-size p c t }
+
+  pub same-heard : heardBy c t (partServed p m t .answer .number) ≡ heardBy c t (felt p (window c m) c t .stepped .answer .number)
+  unfolding partServed
+  same-heard = target-heard (forgetting t p) m c (left-whole p m t whole) low within t
 
 -- ---- what a channel feels, in a frame and outside one
 module _ (p : Part) (m : List ℕ) (c : ℕ) (low : c < 3) where
-  abbrev heard : Target → Heard
-  heard t = heardBy c t (felt (chan p c) m c t .stepped .answer .number)
+  abbrev heardIn : Target → Heard
+  heardIn t = heardBy c t (feltBy (chan p c) m c t .stepped .answer .number)
 
   module _ (w : Watch) (u : Under (chan p c) w (chan p c .head .walk .phase)) where
     GoesAt : Target → Type 0
-    GoesAt t = resetsBy c p t ≡ false → Goes (chan p c .head .walk .phase) (chan p c) m w (heard t) (felt (chan p c) m c t)
+    GoesAt t = resetsBy c p t ≡ false → Goes (chan p c .head .walk .phase) (chan p c) m w (heardIn t) (feltBy (chan p c) m c t)
 
-    pub felt-goes : (t : Target) → resetsBy c p t ≡ false → Goes (chan p c .head .walk .phase) (chan p c) m w (heard t) (felt (chan p c) m c t)
-    unfolding GoesAt felt heardBy resetsBy if_then_else_
-    felt-goes (One op d) e =
+    target-goes : (t : Target) → resetsBy c p t ≡ false → Goes (chan p c .head .walk .phase) (chan p c) m w (heardIn t) (feltBy (chan p c) m c t)
+    unfolding GoesAt feltBy heardBy resetsBy if_then_else_
+    target-goes (One op d) e =
         split c GoesAt (λ op e. rw (own-eqb c) (own-goes (chan p c) m c w u op (rw (own-eqb c) at e))) (λ op d q e. rw q (other-goes (chan p c) m c w u)) op d e
-    felt-goes (All (CtrlWrite reg v)) e = other-goes (chan p c) m c w u
-    felt-goes (All (CtrlRead reg)) e = other-goes (chan p c) m c w u
-    felt-goes (All (AllTrigger x)) e = edge-goes (chan p c) m c w u x
-    felt-goes (All AllReset) e = no (sym e)
-    felt-goes (All Beyond) e = other-goes (chan p c) m c w u
+    target-goes (All (CtrlWrite reg v)) e = other-goes (chan p c) m c w u
+    target-goes (All (CtrlRead reg)) e = other-goes (chan p c) m c w u
+    target-goes (All (AllTrigger x)) e = edge-goes (chan p c) m c w u x
+    target-goes (All AllReset) e = no (sym e)
+    target-goes (All Beyond) e = other-goes (chan p c) m c w u
 
   module _ (calm : runsOf (chan p c .head .walk .phase) ≡ false) where
     OutsideAt : Target → Type 0
-    OutsideAt t = resetsBy c p t ≡ false → Outside (chan p c) m (heard t) (felt (chan p c) m c t) (asksBy c p t)
+    OutsideAt t = resetsBy c p t ≡ false → Outside (chan p c) m (heardIn t) (feltBy (chan p c) m c t) (asksBy c p t)
 
-    pub felt-outside : (t : Target) → resetsBy c p t ≡ false → Outside (chan p c) m (heard t) (felt (chan p c) m c t) (asksBy c p t)
-    unfolding OutsideAt felt heardBy resetsBy asksBy if_then_else_
-    felt-outside (One op d) e =
+    target-outside : (t : Target) → resetsBy c p t ≡ false → Outside (chan p c) m (heardIn t) (feltBy (chan p c) m c t) (asksBy c p t)
+    unfolding OutsideAt feltBy heardBy resetsBy asksBy if_then_else_
+    target-outside (One op d) e =
         split c OutsideAt (λ op e. rw (own-eqb c) (own-outside (chan p c) m c low calm op (rw (own-eqb c) at e))) (λ op d q e. rw q (same-outside (chan p c) m calm)) op d e
-    felt-outside (All (CtrlWrite reg v)) e = same-outside (chan p c) m calm
-    felt-outside (All (CtrlRead reg)) e = same-outside (chan p c) m calm
-    felt-outside (All (AllTrigger x)) e = edge-outside (chan p c) m calm x
-    felt-outside (All AllReset) e = no (sym e)
-    felt-outside (All Beyond) e = same-outside (chan p c) m calm
+    target-outside (All (CtrlWrite reg v)) e = same-outside (chan p c) m calm
+    target-outside (All (CtrlRead reg)) e = same-outside (chan p c) m calm
+    target-outside (All (AllTrigger x)) e = edge-outside (chan p c) m calm x
+    target-outside (All AllReset) e = no (sym e)
+    target-outside (All Beyond) e = same-outside (chan p c) m calm
+
+-- ---- the key is nothing to a frame
+module _ (k : Bool) (c : Channel) where
+  under-rekeyed : (w : Watch) → Under c w (c .head .walk .phase) → Under (rekeyed k c) w (c .head .walk .phase)
+  under-rekeyed w u = record { at = u .at; few = u .few; wide = u .wide; watching = u .watching; frame = u .frame; runs = u .runs }
+
+  goes-rekeyed : (p : Phase) (m : List ℕ) (w : Watch) (h : Heard) (d : Served) → Goes p (rekeyed k c) m w h d → Goes p c m w h d
+  goes-rekeyed p m w h d g = record {
+    slas = g .slas;
+    lengths = g .lengths;
+    width = g .width;
+    left = g .left;
+    watch = g .watch;
+    counts = g .counts;
+    paced = g .paced;
+    moment = g .moment;
+    kept = g .kept;
+    runs = g .runs;
+    done = g .done;
+  }
+
+module _ (p : Part) (m : List ℕ) (c : ℕ) (low : c < 3) (t : Target) (e : resetsBy c p t ≡ false) where
+  abbrev heard : Heard
+  heard = heardBy c t (felt p m c t .stepped .answer .number)
+
+  pub felt-goes : (w : Watch) → Under (chan p c) w (chan p c .head .walk .phase) → Goes (chan p c .head .walk .phase) (chan p c) m w heard (felt p m c t)
+  felt-goes w u =
+      let l = left-at p c t in
+      let v = subst (λ (x : Channel). Under x w (x .head .walk .phase)) (sym (l .is)) (under-rekeyed (l .key) (chan p c) w u) in
+      let g = target-goes (forgetting t p) m c low w v t (resets-left p c t ∙ e) in
+      goes-rekeyed (l .key) (chan p c) _ m w heard (felt p m c t) (subst (λ (x : Channel). Goes (x .head .walk .phase) x m w heard (felt p m c t)) (l .is) g)
+
+  pub felt-outside : runsOf (chan p c .head .walk .phase) ≡ false → Outside (chan p c) m heard (felt p m c t) (asksBy c p t)
+  felt-outside calm =
+      let l = left-at p c t in
+      let still = ap (λ (x : Channel). runsOf (x .head .walk .phase)) (l .is) ∙ calm in
+      let o = target-outside (forgetting t p) m c low still t (resets-left p c t ∙ e) in
+      rekeyed-outside (l .key) (chan p c) m heard (felt p m c t) (asksBy c p t)
+      (subst (λ (x : Channel). Outside x m heard (felt p m c t) (asksBy c p t)) (l .is) (rw (asks-left p c t) at o))

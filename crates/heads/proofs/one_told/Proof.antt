@@ -9,5 +9,4 @@ one-told-spec =
     (tie.spec
     (λ c κs. search needs)
     (λ c κs. search needs)
-    (λ c κs. search needs)
-    (λ c. rw (c .act-at .ensures, c .before .key-kept .ensures, c .before .before .be-after .ensures)))
+    (λ c. rw (c .act-at .ensures, c .before .be-after .ensures)))

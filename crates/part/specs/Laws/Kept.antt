@@ -20,19 +20,20 @@ use Rattle.steps.specs.declared.map.Wide.{Wide}
 use Rattle.steps.specs.declared.map.Target.the-variants.{One, All}
 use Rattle.steps.specs.declared.map.Wide.the-variants.{CtrlWrite, CtrlRead, AllTrigger, AllReset, Beyond}
 use Rattle.steps.specs.Map.{targetOf}
-use Rattle.steps.specs.Keys.{ctrlpresetOf}
+use Rattle.steps.specs.Keys.{ctrlpresetOf, opWrites, wideWrites}
 use Rattle.steps.specs.Laws.Map.{in-part}
 use Rattle.steps.specs.Facts.{InPart}
 use Rattle.channel.specs.declared.state.Channel.{Channel}
+use Rattle.head.specs.Range.{headIn}
 use Rattle.channel.specs.Range.{inRange}
 use Rattle.channel.specs.Facts.{Accepted}
 use Rattle.channel.specs.Laws.Kept.{serves-in-range, fresh-in-range, served-length}
 use Rattle.channel.specs.Laws.Frames.{trigger-in-range}
 use Rattle.part.specs.declared.state.Part.{Part}
 use Rattle.part.specs.declared.state.PartStepped.{PartStepped}
-use Rattle.part.specs.State.{chan, freshPart, wiped, window, withKey}
+use Rattle.part.specs.State.{chan, freshPart, wiped, window, withKey, keyless, forgotten}
 use Rattle.part.specs.Registers.{ctrlRead, ctrlWritten, ctrlPut, ctrlStore}
-use Rattle.part.specs.Step.{edgeChannel, allServed, allStored, oneServed, oneStep, oneBytes, triggerStep, partServed, partStored, channelsIn, partIn, accepts, partStep, partBytes}
+use Rattle.part.specs.Step.{edgeChannel, allServed, allStored, oneServed, oneStep, oneBytes, triggerStep, targetServed, targetStored, forgetting, partServed, partStored, channelsIn, partIn, accepts, partStep, partBytes}
 use Rattle.part.specs.Laws.Memory.{fits, length-window, length-put}
 use Rattle.part.specs.Laws.Range.{accepts-whole, chan-in-range}
 use Rattle.part.specs.Facts.{Whole}
@@ -118,10 +119,34 @@ module _ (p : Part) (h : In p) where
   all-in AllReset = fresh-in
   all-in Beyond = h
 
-  served-in : (m : List ℕ) (t : Target) → length m ≡ memorySize → InPart t → Good (partServed p m t)
-  unfolding partServed
-  served-in m (One op c) whole q = one-in m c op whole q
-  served-in m (All t) whole q = all-in t
+  target-in : (m : List ℕ) (t : Target) → length m ≡ memorySize → InPart t → Good (targetServed p m t)
+  unfolding targetServed
+  target-in m (One op c) whole q = one-in m c op whole q
+  target-in m (All t) whole q = all-in t
+
+  -- ---- a key forgotten
+  keyless-in : (x : Channel) → inRange x ≡ true → inRange (keyless x) ≡ true
+  unfolding inRange headIn
+  keyless-in x e = e
+
+  forgotten-in : (c : ℕ) → In (forgotten p c)
+  forgotten-in c = (set-in _ c _ (map-in keyless keyless-in (p .channels) (h .0)) (chan-in-range p c (of-in p h)), h .1)
+
+  left-in : (t : Target) → In (forgetting t p)
+  unfolding forgetting
+  left-in (One op c) = pick-holds In (opWrites op) (λ _. forgotten-in c) (λ _. h)
+  left-in (All t) = pick-holds In (wideWrites t) (λ _. forgotten-in 3) (λ _. h)
+
+served-in : (p : Part) → In p → (m : List ℕ) (t : Target) → length m ≡ memorySize → InPart t → Good (partServed p m t)
+unfolding partServed
+served-in p h m t whole q = target-in (forgetting t p) (left-in p h t) m t whole q
+
+-- no. 9 refuses nothing after keys were forgotten either
+pub forgotten-whole : (p : Part) (m : List ℕ) (c : ℕ) → Whole p m → Whole (forgotten p c) m
+forgotten-whole p m c w = record { ranged = of-in _ (forgotten-in p (in-of p (w .ranged)) c); whole = w .whole }
+
+pub left-whole : (p : Part) (m : List ℕ) (t : Target) → Whole p m → Whole (forgetting t p) m
+left-whole p m t w = record { ranged = of-in _ (left-in p (in-of p (w .ranged)) t); whole = w .whole }
 
 -- NO STEP LEADS OUT OF RANGE
 pub part-stays-in-range : (p : Part) (m : List ℕ) (s : Step) → partIn p ≡ true → partIn (partStep p m s .part) ≡ true
@@ -158,10 +183,14 @@ module _ (p : Part) (m : List ℕ) (w : Whole p m) where
   all-length AllReset = wiped-length ∙ sym (w .whole)
   all-length Beyond = refl
 
-  stored-length : (t : Target) → InPart t → Same m (partStored p m t)
-  unfolding partStored Same
-  stored-length (One op c) h = one-bytes-length c op h
-  stored-length (All t) h = all-length t
+  target-length : (t : Target) → InPart t → Same m (targetStored p m t)
+  unfolding targetStored Same
+  target-length (One op c) h = one-bytes-length c op h
+  target-length (All t) h = all-length t
+
+stored-length : (p : Part) (m : List ℕ) → Whole p m → (t : Target) → InPart t → Same m (partStored p m t)
+unfolding partStored
+stored-length p m w t h = target-length (forgetting t p) m (left-whole p m t w) t h
 
 pub part-length : (p : Part) (m : List ℕ) (s : Step) → length (partBytes p m s) ≡ length m
 unfolding partBytes Same

@@ -1,6 +1,6 @@
--- What a part in range says of each of its channels, and a step by whether it is refused by no. 9.
+-- What a part in range says of each of its channels, and a step that no. 9 does not refuse.
 use Prim.Native.Nat.{ℕ, zero, suc}
-use mathlib.Core.Bool.{true, false}
+use mathlib.Core.Bool.{true}
 use mathlib.Core.List.{List, [], _∷_}
 use mathlib.Core.Path.{_≡_, refl}
 use borrow.Author.Tests.{eqb-true, eq-eqb}
@@ -8,14 +8,13 @@ use lib.ListN.{length, getD}
 use Rattle.laws.specs.Pick.{if_then_else_}
 use Rattle.laws.specs.Cases.{both, with}
 use Rattle.bounds.specs.Range.{pointersIn, registersIn, countingOf, endedIn, blankOf, recordedIn, walkIn, frameIn}
-use Rattle.rules.specs.Numbers.{outOfRange}
 use Rattle.steps.specs.declared.map.Step.{Step}
 use Rattle.steps.specs.Map.{targetOf}
 use Rattle.head.specs.Range.{headIn}
 use Rattle.channel.specs.declared.state.Channel.{Channel}
 use Rattle.channel.specs.Range.{inRange}
 use Rattle.part.specs.declared.state.Part.{Part}
-use Rattle.part.specs.State.{blank, chan, refusedPart}
+use Rattle.part.specs.State.{blank, chan}
 use Rattle.part.specs.Step.{channelsIn, partIn, accepts, partServed, partStored, partStep, partBytes}
 use Rattle.part.specs.Facts.{Whole}
 
@@ -46,7 +45,7 @@ pub whole-accepts : (p : Part) (m : List ℕ) → Whole p m → accepts p (lengt
 unfolding accepts
 whole-accepts p m w = with _ _ (eq-eqb _ _ (w .whole)) (w .ranged)
 
--- ---- a step by whether no. 9 refuses it
+-- ---- a step that no. 9 does not refuse
 module _ (p : Part) (m : List ℕ) (s : Step) where
   pub step-accepted : accepts p (length m) ≡ true → partStep p m s ≡ partServed p m (targetOf s)
   unfolding partStep if_then_else_
@@ -55,11 +54,3 @@ module _ (p : Part) (m : List ℕ) (s : Step) where
   pub bytes-accepted : accepts p (length m) ≡ true → partBytes p m s ≡ partStored p m (targetOf s)
   unfolding partBytes if_then_else_
   bytes-accepted e = rw e
-
-  pub step-refused : accepts p (length m) ≡ false → partStep p m s ≡ refusedPart p outOfRange
-  unfolding partStep if_then_else_
-  step-refused e = rw e
-
-  pub bytes-refused : accepts p (length m) ≡ false → partBytes p m s ≡ m
-  unfolding partBytes if_then_else_
-  bytes-refused e = rw e

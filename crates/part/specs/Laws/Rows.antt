@@ -1,6 +1,6 @@
 -- A part that is taken apart and put together is the same part, and stays it where a channel's head and row are put anew.
 use Prim.Native.Nat.{ℕ, zero, suc, _<_, _+_, _*_, _-_}
-use mathlib.Core.Bool.{true, false}
+use mathlib.Core.Bool.{Bool, true, false}
 use mathlib.Core.List.{List, [], _∷_, _++_, map}
 use mathlib.Core.Path.{_≡_, refl, sym, _∙_, ap, subst}
 use native.Mathlib.Omega.{arith}
@@ -20,6 +20,7 @@ use Rattle.steps.specs.declared.map.Target.{Target}
 use Rattle.steps.specs.declared.map.Target.the-variants.{One, All}
 use Rattle.steps.specs.declared.map.Wide.{Wide}
 use Rattle.steps.specs.Map.{targetOf}
+use Rattle.steps.specs.Keys.{opWrites, wideWrites}
 use Rattle.steps.specs.Answer.{quiet}
 use Rattle.head.specs.declared.state.Head.{Head}
 use Rattle.head.specs.declared.state.Headed.{Headed}
@@ -36,25 +37,29 @@ use Rattle.heads.specs.declared.Common.{Common}
 use Rattle.heads.specs.declared.Heads.{Heads}
 use Rattle.heads.specs.declared.HeadsStepped.{HeadsStepped}
 use Rattle.heads.specs.declared.OneStepped.{OneStepped}
-use Rattle.heads.specs.Heads.{headAt, unarmedOf, commonAfter, oneTaken, oneStored, edgesStored}
+use Rattle.heads.specs.Heads.{blankHead, headAt, unarmedOf, keylessHead, allBut, forgottenHeads, keyedOf, headsLeft, commonAfter, oneTaken, oneStored, edgesStored}
+use Rattle.heads.specs.Laws.Keys.{three-of, none-forgotten}
 use Rattle.part.specs.declared.state.Part.{Part}
 use Rattle.part.specs.declared.state.PartStepped.{PartStepped}
-use Rattle.part.specs.State.{told, blank, chan, window, putWindow}
+use Rattle.part.specs.State.{told, commonOf, blank, chan, window, putWindow, keyless, forgotten}
 use Rattle.part.specs.Step.{
   triggerStep,
-  commonOf,
   oneAfter,
   oneStep,
   oneBytes,
   allServed,
   allStored,
+  targetServed,
+  targetStored,
+  forgetting,
   partServed,
   partStored,
   partIn,
   partStep,
   partBytes,
 }
-use Rattle.part.specs.Laws.Kept.{chan-accepted}
+use Rattle.part.specs.Laws.Kept.{chan-accepted, left-whole}
+use Rattle.part.specs.Laws.Keys.{size-left}
 use Rattle.part.specs.Laws.Range.{chan-in-range, whole-accepts, step-accepted, bytes-accepted}
 use Rattle.part.specs.Rows.{
   Rows,
@@ -89,13 +94,6 @@ map-at : {A B : Type 0} (f : A → B) (l : List A) (i : ℕ) (d : A) → getD (m
 map-at f [] i d = refl
 map-at f (x ∷ l) zero d = refl
 map-at f (x ∷ l) (suc i) d = map-at f l i d
-
-pub three-of : {A : Type 0} (d : A) (l : List A) → length l ≡ 3 → (getD l 0 d ∷ getD l 1 d ∷ getD l 2 d ∷ []) ≡ l
-three-of d [] h = absurd (let k : 0 ≡ 3 = h in omega (arith, k))
-three-of d (a ∷ []) h = absurd (let k : 1 ≡ 3 = h in omega (arith, k))
-three-of d (a ∷ b ∷ []) h = absurd (let k : 2 ≡ 3 = h in omega (arith, k))
-three-of d (a ∷ b ∷ c ∷ []) h = refl
-three-of d (a ∷ b ∷ c ∷ e ∷ l) h = absurd (let k : length (a ∷ b ∷ c ∷ e ∷ l) ≡ 3 = h in omega (arith, k))
 
 -- ---- taken apart, and put together
 module _ (p : Part) where
@@ -178,6 +176,67 @@ tells-gives f h r t n v w =
       answer = ap (λ (x : PartStepped). x .answer) e;
     }
 
+-- ---- KEYS FORGOTTEN, in heads and in the part
+keyless-map : {B : Type 0} (f : Channel → B) (g : B → B) → ((x : Channel) → f (keyless x) ≡ g (f x)) → (l : List Channel) → map g (map f l) ≡ map f (map keyless l)
+keyless-map f g e [] = refl
+keyless-map {B} f g e (x ∷ l) = rw (e x) (ap (λ (t : List B). g (f x) ∷ t) (keyless-map f g e l))
+
+heads-but : (l : List Channel) (c : ℕ) → allBut keylessHead blankHead (map (λ (x : Channel). x .head) l) c ≡ map (λ (x : Channel). x .head) (allBut keyless blank l c)
+heads-but l c =
+    let head : Channel → Head = λ x. x .head in
+    rw (keyless-map head keylessHead (λ x. refl) l, map-at head l c blank) (map-set head (map keyless l) c (getD l c blank))
+
+-- a table stays
+table-but : {B : Type 0} (f : Channel → B) → ((x : Channel) → f (keyless x) ≡ f x) → (l : List Channel) (c : ℕ) → map f (allBut keyless blank l c) ≡ map f l
+table-but f e [] c = refl
+table-but {B} f e (x ∷ l) zero = ap (λ (t : List B). f x ∷ t) (tables f e l)
+  where
+    tables : {B : Type 0} (f : Channel → B) → ((x : Channel) → f (keyless x) ≡ f x) → (l : List Channel) → map f (map keyless l) ≡ map f l
+    tables f e [] = refl
+    tables {B} f e (x ∷ l) = rw (e x) (ap (λ (t : List B). f x ∷ t) (tables f e l))
+table-but {B} f e (x ∷ l) (suc c) = rw (e x) (ap (λ (t : List B). f x ∷ t) (table-but f e l c))
+
+module _ (p : Part) (h : Heads) (t : Rows) (w : Holds p h t) where
+  but-holds : (c : ℕ) → Holds (forgotten p c) (forgottenHeads h c) t
+  but-holds c =
+      let l = p .channels in
+      record {
+        heads = rw (w .heads, heads-but l c);
+        rows =
+            w .rows
+            ∙ rw (
+              table-but (λ (x : Channel). x .slatable) (λ x. refl) l c,
+              table-but (λ (x : Channel). x .tranconfig) (λ x. refl) l c,
+              table-but (λ (x : Channel). x .status) (λ x. refl) l c,
+              table-but (λ (x : Channel). x .bytecount) (λ x. refl) l c,
+            );
+        three = size-left p c ∙ w .three;
+      }
+
+  where-holds : (b : Bool) (c : ℕ) → Holds (if b then forgotten p c else p) (if b then forgottenHeads h c else h) t
+  unfolding if_then_else_
+  where-holds true c = but-holds c
+  where-holds false c = w
+
+  pub left-holds : (x : Target) → Holds (forgetting x p) (headsLeft x h) t
+  unfolding forgetting
+  left-holds (One op c) = where-holds (opWrites op) c
+  left-holds (All x) = where-holds (wideWrites x) 3
+
+-- where no key is pending none is forgotten
+pub none-left : (p : Part) (h : Heads) (t : Rows) → Holds p h t → keyedOf h ≡ false → (x : Target) → forgetting x p ≡ p
+none-left p h t w e x =
+    let three = ap (λ (g : Heads). length (g .channels)) (w .heads) ∙ length-map (p .channels) (λ (c : Channel). c .head) ∙ w .three in
+    sym (holds-part (forgetting x p) (headsLeft x h) t (left-holds p h t w x)) ∙ ap (λ (g : Heads). gathered g t) (none-forgotten h three e x) ∙ holds-part p h t w
+
+-- the heads that a step finds, where they are those that it left of h
+module _ (h : Heads) (t : Rows) (m : List ℕ) (w : Ready h t m) (x : Target) (g : Heads) (e : g ≡ headsLeft x h) where
+  pub found-holds : Holds (forgetting x (gathered h t)) g t
+  found-holds = rw e (left-holds (gathered h t) h t (ready-holds h t m w) x)
+
+  pub found-ready : Ready g t m
+  found-ready = holds-ready (forgetting x (gathered h t)) g t found-holds m (left-whole (gathered h t) m x (w .whole))
+
 -- ---- ONE CHANNEL ANEW: its record x, in its head and its row
 module _ (p : Part) (c : ℕ) (x : Channel) (k : Common) where
   put-holds : length (p .channels) ≡ 3
@@ -213,11 +272,10 @@ module _ (p : Part) (h : Heads) (t : Rows) (w : Holds p h t) (m : List ℕ) (c :
   pub one-gives : OneGives (headAt h c) (h .common) t m c op r t′ m′ → Gives (oneStep p m c op) (oneStored h c r) t′ × (m′ ≡ oneBytes p m c op)
   unfolding oneStep served
   one-gives d =
-      let e = d .given ∙ ap (λ (y : Served). oneTaken (h .common) c op (headedOf (y .stepped))) same-served in
-      let k = commonAfter (h .common) op (served .stepped .answer) in (
+      let e = d .given ∙ ap (λ (y : Served). oneTaken (h .common) c (headedOf (y .stepped))) same-served in (
         record {
           holds =
-              rw (e, d .rows, same-served, w .heads, w .rows) (put-holds p c (served .stepped .channel) (commonAfter (commonOf p) op (served .stepped .answer)) (w .three));
+              rw (e, d .rows, same-served, w .heads, w .rows) (put-holds p c (served .stepped .channel) (commonAfter (commonOf p) (served .stepped .answer)) (w .three));
           answer = ap (λ (y : OneStepped). y .answer) e;
         },
         one-bytes d,
@@ -254,31 +312,32 @@ module _ (h : Head) (k : Common) (t : Rows) (m : List ℕ) (c : ℕ) (op : Op) w
   one-accepted w = rw same-width (w .accepted)
 
   pub one-left : (r : Headed) (a b d e l : List ℕ) (o : OneStepped)
-      → leaving l (rejoined r a b d e) ≡ servedBy (channelIn h t c) (take width (drop start m)) c op → o ≡ oneTaken k c op r
+      → leaving l (rejoined r a b d e) ≡ servedBy (channelIn h t c) (take width (drop start m)) c op → o ≡ oneTaken k c r
       → OneGives h k t m c op o (record { sla = set (t .sla) c a; lens = set (t .lens) c b; status = set (t .status) c d; counts = set (t .counts) c e })
       (take start m ++ (l ++ drop width (drop start m)))
   unfolding window putWindow
   one-left r a b d e l o q f =
       let all = q ∙ ap (λ (w : ℕ). servedBy (channelIn h t c) (take w (drop start m)) c op) same-width in
       record {
-        given = f ∙ ap (λ (y : Served). oneTaken k c op (headedOf (y .stepped))) all;
+        given = f ∙ ap (λ (y : Served). oneTaken k c (headedOf (y .stepped))) all;
         rows = ap (λ (y : Served). withRow t c (y .stepped .channel)) all;
         memory = rw (same-width, drop-drop bufferSize start) (ap (λ (y : Served). putWindow c (y .bytes) m) all);
       }
 
 -- ---- A STEP, by whom it concerns
-module _ (p : Part) (m : List ℕ) (w : Whole p m) (s : Step) (r : HeadsStepped) (t : Rows) (n : List ℕ) where
-  by-target : (x : Target) → targetOf s ≡ x → Gives (partServed p m x) r t × (n ≡ partStored p m x) → Gives (partStep p m s) r t × (n ≡ partBytes p m s)
-  by-target x e d = let y = whole-accepts p m w in rw (step-accepted p m s y, bytes-accepted p m s y, e) d
+module _ (p : Part) (m : List ℕ) (x : Target) (r : HeadsStepped) (t : Rows) (n : List ℕ) where
+  pub step-one : (c : ℕ) (op : Op) → x ≡ One op c → Gives (oneStep (forgetting (One op c) p) m c op) r t × (n ≡ oneBytes (forgetting (One op c) p) m c op)
+      → Gives (partServed p m x) r t × (n ≡ partStored p m x)
+  unfolding partServed partStored targetServed targetStored
+  step-one c op e d = rw e d
 
-  pub step-one : (c : ℕ) (op : Op) → targetOf s ≡ One op c → Gives (oneStep p m c op) r t × (n ≡ oneBytes p m c op)
-      → Gives (partStep p m s) r t × (n ≡ partBytes p m s)
-  unfolding partServed partStored
-  step-one c op e d = by-target (One op c) e d
+  pub step-all : (w : Wide) → x ≡ All w → Gives (allServed (forgetting (All w) p) w) r t × (n ≡ allStored (forgetting (All w) p) m w)
+      → Gives (partServed p m x) r t × (n ≡ partStored p m x)
+  unfolding partServed partStored targetServed targetStored
+  step-all w e d = rw e d
 
-  pub step-all : (x : Wide) → targetOf s ≡ All x → Gives (allServed p x) r t × (n ≡ allStored p m x) → Gives (partStep p m s) r t × (n ≡ partBytes p m s)
-  unfolding partServed partStored
-  step-all x e d = by-target (All x) e d
+  pub step-by : Whole p m → (s : Step) → x ≡ targetOf s → Gives (partServed p m x) r t × (n ≡ partStored p m x) → Gives (partStep p m s) r t × (n ≡ partBytes p m s)
+  step-by w s e d = let y = whole-accepts p m w in rw (step-accepted p m s y, bytes-accepted p m s y, ← e) d
 
 -- ---- rows put one by one
 module _ (t : Rows) (c : ℕ) (x : Channel) where

@@ -9,12 +9,16 @@ use lib.Dec.{ltb}
 use lib.ListN.{length}
 use borrow.Author.Needs.{needs}
 use borrow.Author.Tests.{ltb-true, lt-ltb}
-use Rattle.part.specs.Rows.{Rows, asRows, gathered, Holds}
+use Rattle.part.specs.Facts.{Whole}
+use Rattle.part.specs.Rows.{Rows, asRows, gathered, Holds, Ready}
+use Rattle.part.specs.Laws.Kept.{left-whole}
 use Rattle.part.specs.Laws.Rows.{holds-one-ready, holds-part, holds-ready}
+use Rattle.script.specs.declared.reading.Line.{Line}
+use Rattle.runner.specs.Run.{lineTarget}
 use Rattle.runner.specs.declared.answering.Course.{Course}
 use Rattle.runner.specs.Laws.Feeding.{Going, going-done, going-on, put-length}
 use Rattle.runner.specs.Laws.Lines.{end-after, end-in}
-use Rattle.runner.specs.Laws.Performing.{Performs, line-one, line-rest}
+use Rattle.runner.specs.Laws.Performing.{Performs, asked-left, leftBy, line-one, line-rest, none-asked}
 use Rattle.runner.proofs.answering.answer_lines.Statement.{statement}
 use Rattle.runner.proofs.answering.answer_lines.Tie as tie
 
@@ -40,8 +44,11 @@ turnOf test = test .before .before
 abbrev testOf : tie.After-aim-of Inv-loop μ-loop → tie.Then1 Inv-loop μ-loop
 testOf aim = aim .before .before .before
 
-abbrev aimFor : tie.After-a Inv-loop μ-loop → tie.After-aim-of Inv-loop μ-loop
-aimFor arm = arm .before .before .before
+abbrev aimOf : tie.Joined2 Inv-loop μ-loop → tie.After-aim-of Inv-loop μ-loop
+aimOf join = join .before .before
+
+abbrev joinFor : tie.After-a Inv-loop μ-loop → tie.Joined2 Inv-loop μ-loop
+joinFor arm = arm .before .before .before
 
 -- ---- what is known there
 
@@ -49,17 +56,38 @@ aimFor arm = arm .before .before .before
 abbrev rowsAt : tie.At-loop Inv-loop μ-loop → Rows
 rowsAt turn = asRows (turn .loop .sla) (turn .loop .lens) (turn .loop .status) (turn .loop .counts)
 
--- there are three heads
-three : (turn : tie.At-loop Inv-loop μ-loop) → length (turn .loop .heads .channels) ≡ 3
-three turn = let g = turn .loop .inv .1 in holds-ready (g .part) (turn .loop .heads) (rowsAt turn) (g .holds) _ (g .whole) .heads
-
 -- the line has its LF
 has-lf : (test : tie.Then1 Inv-loop μ-loop) → turnOf test .loop .end < length (startOf (turnOf test) .args .block .now)
 has-lf test = ltb-true _ _ (sym (test .before .has-lf .ensures) ∙ test .if1 .taken)
 
+-- the line, and what it leaves of the keys
+abbrev lineOf : tie.Joined2 Inv-loop μ-loop → Line
+lineOf join = aimOf join .before .read-line .result
+
+abbrev loopOf : tie.Joined2 Inv-loop μ-loop → tie.At-loop Inv-loop μ-loop
+loopOf join = turnOf (testOf (aimOf join))
+
+left : (join : tie.Joined2 Inv-loop μ-loop) → Holds (leftBy (lineOf join) (loopOf join .loop .inv .1 .part)) (join .if2 .heads) (rowsAt (loopOf join))
+left join =
+    let turn = loopOf join in
+    let g = turn .loop .inv .1 in
+    let h = turn .loop .heads in
+    let l = lineOf join in
+    ⊎-elim {C = Holds (leftBy l (g .part)) (join .if2 .heads) (rowsAt turn)}
+    (λ w. asked-left (g .part) h (rowsAt turn) (g .holds) l _ (aimOf join .aim-of .ensures .0) (w .1 .result) (w .1 .ensures) (join .if2 .heads) (w .3 ∙ w .2 .ensures))
+    (λ w. none-asked (g .part) h (rowsAt turn) (g .holds) l (join .if2 .heads) (w .1) (sym (join .before .keyed .ensures) ∙ w .0 .left))
+    (join .if2 .came)
+
+left-accepted : (join : tie.Joined2 Inv-loop μ-loop) → Whole (leftBy (lineOf join) (loopOf join .loop .inv .1 .part)) (loopOf join .loop .mem)
+left-accepted join = let turn = loopOf join in left-whole (turn .loop .inv .1 .part) (turn .loop .mem) (lineTarget (lineOf join)) (turn .loop .inv .1 .whole)
+
+-- there are three heads
+ready : (join : tie.Joined2 Inv-loop μ-loop) → Ready (join .if2 .heads) (rowsAt (loopOf join)) (loopOf join .loop .mem)
+ready join = holds-ready _ (join .if2 .heads) (rowsAt (loopOf join)) (left join) _ (left-accepted join)
+
 -- the channel is one of three
 below : (arm : tie.After-a Inv-loop μ-loop) → arm .a .given .0 .1 .0 < 3
-below arm = rw (arm .a .given .1) at (aimFor arm .aim-of .ensures .1)
+below arm = rw (arm .a .given .1) at (aimOf (joinFor arm) .aim-of .ensures .1)
 
 -- ---- before the loop
 spread-requires : tie.Need-spread-requires Inv-loop μ-loop
@@ -123,42 +151,39 @@ element-copy-out-h : tie.Need-element-copy-out-h Inv-loop μ-loop
 element-copy-out-h c =
     let arm = c .before in
     let b = below arm in
-    let n = three (turnOf (testOf (aimFor arm))) in
+    let n = ready (joinFor arm) .heads in
     search needs
 
 element-set-from-g : tie.Need-element-set-from-g Inv-loop μ-loop
 element-set-from-g c =
     let arm = c .before .before .before .before .before .before .before .before .before .before .before .before in
     let b = below arm in
-    let n = three (turnOf (testOf (aimFor arm))) in
+    let n = ready (joinFor arm) .heads in
     search needs
 
 one-requires : tie.Need-one-requires Inv-loop μ-loop
 one-requires c κs =
     let arm = c .before .before .before .before .before .before .before .before in
-    let turn = turnOf (testOf (aimFor arm)) in
-    let g = turn .loop .inv .1 in
-    holds-one-ready (g .part) (turn .loop .heads) (rowsAt turn) (g .holds) _ (g .whole) _ (below arm)
+    let join = joinFor arm in
+    holds-one-ready _ (join .if2 .heads) (rowsAt (loopOf join)) (left join) _ (left-accepted join) _ (below arm)
 
 perform-requires : tie.Need-perform-requires Inv-loop μ-loop
 perform-requires c κs =
-    let turn = c .before .before .before .before .before .before .before .before .before .before .before .before .before .before in
-    let g = turn .loop .inv .1 in
-    holds-ready (g .part) (turn .loop .heads) (rowsAt turn) (g .holds) _ (g .whole)
+    ready (c .before .before .before .before .before .before .before .before .before)
 
 -- ---- there is a next place
 add-from : tie.Need-add-from Inv-loop μ-loop
 add-from c =
-    let test = c .before .before .before .before .before .before .before .before .before .before .before in
+    let test = testOf (aimOf (c .before .before .before .before .before .before .before .before)) in
     omega (arith, has-lf test, startOf (turnOf test) .good .1 .0)
 
 line-end-requires-2 : tie.Need-line-end-requires-2 Inv-loop μ-loop
 line-end-requires-2 c κs =
-    omega (arith, has-lf (c .before .before .before .before .before .before .before .before .before .before .before))
+    omega (arith, has-lf (testOf (aimOf (c .before .before .before .before .before .before .before .before))))
 
 loop-less : tie.Need-loop-less Inv-loop μ-loop
 loop-less c =
-    let test = c .before .before .before .before .before .before .before .before .before .before .before .before in
+    let test = testOf (aimOf (c .before .before .before .before .before .before .before .before .before)) in
     let turn = turnOf test in
     omega (arith, end-after (startOf turn .args .block .now) (turn .loop .from), has-lf test, turn .loop .inv .1 .here)
 
@@ -169,7 +194,8 @@ loop-again c =
     let level = text .before .before in
     let number = level .before in
     let join = number .before in
-    let aim = join .before .before in
+    let keys = join .before .before in
+    let aim = aimOf keys in
     let line = aim .before in
     let test = testOf aim in
     let turn = turnOf test in
@@ -183,10 +209,10 @@ loop-again c =
     ⊎-elim {C = Performs (v .part) (turn .loop .mem) l (record { heads = j .heads; answer = j .answer }) rows (j .mem)}
     (λ w.
     rw (w .16, w .17, w .18, w .19, w .20, w .21, w .22)
-    (line-one (v .part) (turn .loop .mem) (v .whole) (turn .loop .heads) (rowsAt turn) (v .holds) l _ is _ _ (w .10 .result) _ _ (w .1 .given .1) (w .10 .ensures)))
+    (line-one (v .part) (turn .loop .mem) (v .whole) (keys .if2 .heads) (rowsAt turn) l (left keys) _ is _ _ (w .10 .result) _ _ (w .1 .given .1) (w .10 .ensures)))
     (λ w.
     rw (w .13, w .14, w .15, w .16, w .17, w .18, w .19)
-    (line-rest (v .part) (turn .loop .mem) (v .whole) (turn .loop .heads) (rowsAt turn) (v .holds) l _ is _ (w .8 .result) _ _ (w .1 .given .1) (w .8 .ensures)))
+    (line-rest (v .part) (turn .loop .mem) (v .whole) (keys .if2 .heads) (rowsAt turn) l (left keys) _ is _ (w .8 .result) _ _ (w .1 .given .1) (w .8 .ensures)))
     (j .came) in (
       put-length _ _ _ _ _ (text .write-answer .ensures .0) ∙ turn .loop .inv .0,
       going-on block _ _ _ (turn .loop .heads) (rowsAt turn) (turn .loop .mem) (turn .loop .out) (turn .loop .step) (turn .loop .from) (turn .loop .at)
@@ -226,6 +252,9 @@ answer-lines-spec =
     sub-read-line
     part-read-line-start
     part-read-line-end
+    (λ c κs. search needs)
+    (λ c κs. search needs)
+    (λ c κs. search needs)
     (λ c κs. search needs)
     (λ c κs. search needs)
     (λ c κs. search needs)

@@ -4,8 +4,8 @@ use mathlib.Core.Path.{_≡_, ap}
 use lib.ListN.{length, length-map}
 use borrow.Author.Needs.{needs}
 use Rattle.channel.specs.declared.state.Channel.{Channel}
+use Rattle.heads.specs.Laws.Keys.{three-of}
 use Rattle.part.specs.State.{blank}
-use Rattle.part.specs.Laws.Rows.{three-of}
 use Rattle.part.proofs.state.Part.heads.Statement.{statement}
 use Rattle.part.proofs.state.Part.heads.Tie as tie
 

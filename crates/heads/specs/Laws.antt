@@ -1,0 +1,2 @@
+-- Laws of the definitions, for the proofs of functions. Nothing here needs to be believed: it is proved.
+pub mod Keys
