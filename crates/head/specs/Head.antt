@@ -3,7 +3,7 @@ use Prim.Native.Nat.{ℕ, _+_}
 use mathlib.Core.Bool.{Bool}
 use Rattle.rules.specs.declared.state.Phase.{Phase}
 use Rattle.rules.specs.declared.state.Phase.the-variants.{Stopping, Receiving}
-use Rattle.rules.specs.Registers.{bitOf}
+use Rattle.rules.specs.Registers.{bitOf, femsk}
 use Rattle.rules.specs.declared.wires.Action.{Action}
 use Rattle.rules.specs.declared.wires.Action.the-variants.{C, P}
 use Rattle.sequence.specs.declared.wires.Ending.{Ending}
@@ -27,7 +27,7 @@ abbrev pub haltOf : Head → Bool
 haltOf h = haltedOf (h .walk .fe) (h .walk .sto)
 
 abbrev pub femskOf : Head → Bool
-femskOf h = bitOf (h .regs .intmsk) 0x01
+femskOf h = bitOf (h .regs .intmsk) femsk
 
 -- what event e comes to
 abbrev pub turnAt : Head → Event → Turn

@@ -8,6 +8,7 @@ use crate::state::Headed;
 use rules::Action;
 use rules::DONE;
 use rules::Event;
+use rules::FEMSK;
 use rules::Phase;
 use sequence::Ending;
 use sequence::Fault;
@@ -65,7 +66,7 @@ impl Head {
         ensures { λ r. ⌜ r ≡ plain (lateBy self) ⌝ }
     {
         let w = self.walk;
-        let femsk = rules::bit(self.regs.intmsk, 0x01);
+        let femsk = rules::bit(self.regs.intmsk, FEMSK);
         let f = sequence::late_flags(self.flags, femsk);
         self.with_state(f, sequence::late_walk(w, femsk))
             .answer(DONE)

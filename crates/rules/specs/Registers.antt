@@ -74,7 +74,23 @@ chstatusValue f =
     weigh (f .sd) 0x80 + weigh (f .fld) 0x40 + weigh (f .we) 0x20 + weigh (f .re) 0x10
     + weigh (f .dae) 0x08 + weigh (f .cle) 0x04 + weigh (f .sse) 0x02 + weigh (f .fe) 0x01
 
--- INTMSK: bits 3 to 1 are kept 0
+-- INTMSK masks the same bits: 7 SDMSK, 6 FLDMSK, 5 WEMSK, 4 REMSK, 0 FEMSK (002, Table 10)
+abbrev pub sdmsk : ℕ
+sdmsk = 0x80
+
+abbrev pub fldmsk : ℕ
+fldmsk = 0x40
+
+abbrev pub wemsk : ℕ
+wemsk = 0x20
+
+abbrev pub remsk : ℕ
+remsk = 0x10
+
+abbrev pub femsk : ℕ
+femsk = 0x01
+
+-- its bits 3 to 1 are kept 0
 abbrev pub maskKept : ℕ → ℕ
 maskKept v = v / 16 * 16 + v % 2
 

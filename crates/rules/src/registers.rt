@@ -155,6 +155,17 @@ pub fn chstatus_value(f: Flags) -> u8
         + weight(f.fe, 0x01)
 }
 
+// INTMSK's bits, by their weights (002, Table 10).
+pub const SDMSK: u8 = 0x80;
+
+pub const FLDMSK: u8 = 0x40;
+
+pub const WEMSK: u8 = 0x20;
+
+pub const REMSK: u8 = 0x10;
+
+pub const FEMSK: u8 = 0x01;
+
 // INTMSK's bits 3 to 1 are kept 0.
 pub fn mask_kept(v: u8) -> u8
     ensures { λ r. ⌜ r ≡ maskKept v ⌝ }

@@ -31,7 +31,7 @@ use Rattle.sequence.specs.declared.wires.Ending.{Ending}
 use Rattle.sequence.specs.declared.wires.Ending.the-variants.{Fe, Error, Sd, Wait}
 use Rattle.sequence.specs.declared.wires.Ask.{Ask}
 use Rattle.sequence.specs.declared.wires.Ask.the-variants.{Nothing, Overrun, Begin as BeginAsk, Wait as WaitAsk, Sto, Seq, Leave}
-use Rattle.rules.specs.Registers.{bitOf}
+use Rattle.rules.specs.Registers.{bitOf, wemsk, remsk}
 use Rattle.rules.specs.Tables.{firstSent}
 
 -- ---- CONTROL: what is left of a write after TP, TE and the pointer resets
@@ -103,7 +103,7 @@ nackTurn Waiting = Unawaited
 
 -- WE for a write, RE for a read: masked by INTMSK or not
 unfoldable pub maskedOf : ℕ → Bool → Bool
-maskedOf intmsk read = if read then bitOf intmsk 0x10 else bitOf intmsk 0x20
+maskedOf intmsk read = if read then bitOf intmsk remsk else bitOf intmsk wemsk
 
 -- ---- after each
 

@@ -11,6 +11,8 @@ use rules::Command;
 use rules::Edge;
 use rules::Event;
 use rules::Phase;
+use rules::REMSK;
+use rules::WEMSK;
 use rules::bit;
 use rules::first_sent;
 
@@ -210,9 +212,9 @@ pub fn masked(intmsk: u8, read: bool) -> bool
     ensures { λ r. ⌜ r ≡ maskedOf intmsk read ⌝ }
 {
     if read {
-        bit(intmsk, 0x10)
+        bit(intmsk, REMSK)
     } else {
-        bit(intmsk, 0x20)
+        bit(intmsk, WEMSK)
     }
 }
 
