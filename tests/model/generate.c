@@ -50,6 +50,19 @@ static uint8_t any_byte(void)
     return liked[below(sizeof liked)];
 }
 
+/* A mask that tells a flag's row from the others: the bits that are set, all
+ * but these, one, or all but one */
+static unsigned telling_mask(unsigned flags)
+{
+    unsigned bit = 1u << below(8);
+    switch (below(4)) {
+    case 0:  return flags;
+    case 1:  return ~flags;
+    case 2:  return bit;
+    default: return ~bit;
+    }
+}
+
 /* ---- Output: every line is also run, so the state is known ------------- */
 
 static struct part part;
@@ -208,7 +221,9 @@ static void choose_manner(struct plan *pl)
     static const unsigned rates[] = { 0, 0, 10, 50, 200 };
     pl->framecnt = one_in(20) ? (uint8_t)below(256)
                               : counts[below(sizeof counts)];
-    pl->intmsk = one_in(6) ? (uint8_t)below(256) : masks[below(sizeof masks)];
+    pl->intmsk = one_in(6) ? (uint8_t)below(256)
+                 : one_in(4) ? (uint8_t)telling_mask(0)
+                             : masks[below(sizeof masks)];
     pl->te = (uint8_t)one_in(3);
     pl->tp = (uint8_t)one_in(2);
     if (chorus > 0) {
@@ -300,10 +315,40 @@ static void push_bytecount_reads(unsigned c, unsigned n)
         push_read(c, R_BYTECOUNT);
 }
 
+/* CTRLINTMSK is mostly 0 again afterwards, so that INT goes on showing what
+ * happens. */
+static void push_part_masks(unsigned c, unsigned causes)
+{
+    for (unsigned i = between(1, 3); i > 0; i--)
+        push_write_at(c, R_CTRLINTMSK, telling_mask(causes));
+    if (one_in(2))
+        push_read_at(c, R_CTRLSTATUS);
+    if (!one_in(4))
+        push_write_at(c, R_CTRLINTMSK, 0);
+}
+
+/* Masks that change while flags are set: INT follows at once. */
+static void push_masks(unsigned c)
+{
+    int alone = one_in(2);
+    if (alone)      /* INT hangs on this channel, whatever the others have */
+        push_write_at(c, R_CTRLINTMSK, ~(1u << c));
+    for (unsigned i = between(1, 3); i > 0; i--) {
+        push_write(c, R_INTMSK, telling_mask(part.ch[c].chstatus));
+        if (one_in(3))
+            push_read_at(c, R_CTRLSTATUS);
+    }
+    if (alone)
+        push_part_masks(c, ctrlstatus(&part));
+}
+
 static void push_read_back(unsigned c)
 {
     struct plan *pl = &plans[c];
     unsigned sum = sum_of(pl);
+    /* the rarer flags each time */
+    if (part.ch[c].chstatus & (RE | DAE | CLE) || one_in(3))
+        push_masks(c);
     if (!one_in(4)) {
         if (int_pulled(&part) && one_in(2))
             push_read_at(c, R_CTRLSTATUS);
@@ -512,6 +557,8 @@ static void plan_data_edge(unsigned c)
     push_read(c, R_TRANOFS);
     push_write(c, R_TRANSEL, between(62, 65));
     push_read(c, R_DATA);
+    if (one_in(2))
+        push_part_masks(c, BE);
     push_read_at(c, R_CTRLSTATUS);
 }
 
@@ -836,7 +883,8 @@ static void push_side(unsigned c)
         push_write(c, one_in(2) ? R_CHSTATUS : R_BYTECOUNT, below(256));
         break;
     case 5:
-        push_write(c, R_INTMSK, one_in(2) ? below(256) : 0x31);
+        push_write(c, R_INTMSK, one_in(3) ? telling_mask(part.ch[c].chstatus)
+                                : one_in(2) ? below(256) : 0x31);
         push_read(c, R_INTMSK);
         break;
     case 6:

@@ -3,7 +3,8 @@
  * sees the events that the channel answered 0, the actions, the two tables
  * and the buffer, and counts by these alone. After every step it compares.
  * One more, on the parallel bus, sees the lines and says which channels each
- * has to reset.
+ * has to reset. The last one has the flags and their masks as rows, and says
+ * which channel is pending and whether INT is pulled.
  *
  * model.c includes it before struct channel is known: it can't look at a
  * channel's phase, transaction or key, and BYTECOUNT is handed to it to be
@@ -118,6 +119,38 @@ static const char *const key_names[OF_PRESET] = {
 
 static unsigned long preset_seen[OF_PRESET], ctrlpreset_seen[OF_CTRLPRESET];
 
+/* A flag beside its mask bit, as the data sheet's tables have them. */
+struct row {
+    const char *name;
+    uint8_t flag, mask;         /* mask 0: there is none */
+    uint8_t with;               /* a flag that it never comes without */
+};
+
+enum { CHANNEL_ROWS = 8, ROWS = 12 };
+
+static const struct row rows[ROWS] = {
+    /* Table 8, CHSTATUS, beside Table 10, INTMSK. "Some of these status bits
+     * are error codes that cannot be masked (NMI) by the INTMSK register" */
+    { "SD",  0x80, 0x80, 0 },           /* SDMSK */
+    { "FLD", 0x40, 0x40, 0x80 },        /* FLDMSK; "FLD joins SD" */
+    { "WE",  0x20, 0x20, 0 },           /* WEMSK */
+    { "RE",  0x10, 0x10, 0 },           /* REMSK */
+    { "DAE", 0x08, 0, 0 },
+    { "CLE", 0x04, 0, 0 },
+    { "SSE", 0x02, 0, 0 },
+    { "FE",  0x01, 0x01, 0 },           /* FEMSK */
+    /* Table 30, CTRLSTATUS, beside Table 31, CTRLINTMSK */
+    { "BE",        0x80, 0x80, 0 },     /* BEMSK */
+    { "channel-2", 0x04, 0x04, 0 },     /* CH2MSK */
+    { "channel-1", 0x02, 0x02, 0 },     /* CH1MSK */
+    { "channel-0", 0x01, 0x01, 0 }      /* CH0MSK */
+};
+
+/* The flag is set alone, and no other mask bit could be taken for its own: all
+ * others are 1 and its own is 0, or its own is 1 and all others are 0. Where
+ * it never comes alone, the other flag's bit is 1 both times. */
+static unsigned long open_seen[ROWS], masked_seen[ROWS];
+
 static void print_seen(void)
 {
     for (unsigned i = 0; i < COUNTERS; i++)
@@ -127,6 +160,13 @@ static void print_seen(void)
     for (unsigned i = 0; i < OF_CTRLPRESET; i++)
         fprintf(stderr, "seen CTRLPRESET-%s %lu\n", key_names[i],
                 ctrlpreset_seen[i]);
+    for (unsigned i = 0; i < ROWS; i++) {
+        fprintf(stderr, "seen %s-alone-open %lu\n", rows[i].name,
+                open_seen[i]);
+        if (rows[i].mask)
+            fprintf(stderr, "seen %s-alone-masked %lu\n", rows[i].name,
+                    masked_seen[i]);
+    }
 }
 
 /* ---- The tables -------------------------------------------------------- */
@@ -433,4 +473,72 @@ static unsigned log_line(struct bus *bus, const struct line *l)
     default:  bus->over |= 1u << OVER_UNREADABLE; break;
     }
     return 0;
+}
+
+/* ---- The masks, row by row --------------------------------------------- */
+
+/* What it sees after a step: what a read of each would give */
+struct levels {
+    uint8_t chstatus[CHANNELS], intmsk[CHANNELS];
+    uint8_t ctrlstatus, ctrlintmsk;
+};
+
+/* A row is open where its flag is set and its mask bit is 0 or isn't there. */
+static int some_open(unsigned from, unsigned to, unsigned flags,
+                     unsigned masks)
+{
+    for (unsigned i = from; i < to; i++)
+        if (flags & rows[i].flag && !(masks & rows[i].mask))
+            return 1;
+    return 0;
+}
+
+/* The counter of these flags and masks, or NULL */
+static unsigned long *row_seen(unsigned from, unsigned to, unsigned flags,
+                               unsigned masks)
+{
+    unsigned all_flags = 0, all_masks = 0;
+    for (unsigned i = from; i < to; i++) {
+        all_flags |= rows[i].flag;
+        all_masks |= rows[i].mask;
+    }
+    for (unsigned i = from; i < to; i++) {
+        const struct row *r = &rows[i];
+        if ((flags & all_flags) != (unsigned)(r->flag | r->with))
+            continue;
+        if (masks == (all_masks & ~r->mask))
+            return &open_seen[i];
+        if (r->mask && masks == (unsigned)(r->mask | r->with))
+            return &masked_seen[i];
+    }
+    return NULL;
+}
+
+/* Each counts in the step that brings it, by a flag or by a mask. */
+static void count_row(unsigned of, unsigned long *now)
+{
+    static unsigned long *before[CHANNELS + 1];
+    if (now != NULL && now != before[of])
+        ++*now;
+    before[of] = now;
+}
+
+/* "channel pending (some CHSTATUS bit set whose INTMSK bit is 0)"
+ * Counted where INT hangs on this channel alone. */
+static int log_pending(const struct levels *l, unsigned c)
+{
+    unsigned flags = l->chstatus[c], masks = l->intmsk[c], bit = 1u << c;
+    int hangs = !(l->ctrlintmsk & bit)
+        && !some_open(CHANNEL_ROWS, ROWS, l->ctrlstatus & ~bit, l->ctrlintmsk);
+    count_row(c, hangs ? row_seen(0, CHANNEL_ROWS, flags, masks) : NULL);
+    return some_open(0, CHANNEL_ROWS, flags, masks);
+}
+
+/* "INT is pulled exactly when BE is set and bit 7 of CTRLINTMSK is 0, or a
+ *  channel is pending and its CTRLINTMSK bit is 0." */
+static int log_int(const struct levels *l)
+{
+    unsigned flags = l->ctrlstatus, masks = l->ctrlintmsk;
+    count_row(CHANNELS, row_seen(CHANNEL_ROWS, ROWS, flags, masks));
+    return some_open(CHANNEL_ROWS, ROWS, flags, masks);
 }

@@ -1193,11 +1193,22 @@ static unsigned resets_due(const uint8_t *s, const struct answer *a)
     return log_line(&bus, &l);
 }
 
+static struct levels levels_of(const struct part *p)
+{
+    struct levels l = { { 0 }, { 0 }, ctrlstatus(p), p->ctrlintmsk };
+    for (unsigned c = 0; c < CHANNELS; c++) {
+        l.chstatus[c] = p->ch[c].chstatus;
+        l.intmsk[c] = p->ch[c].intmsk;
+    }
+    return l;
+}
+
 static void check_wires(struct part *p, const uint8_t *s,
                         const struct answer *a)
 {
     static struct logger loggers[CHANNELS];
     unsigned due = resets_due(s, a);
+    struct levels levels = levels_of(p);
     for (unsigned c = 0; c < CHANNELS; c++) {
         const struct channel *ch = &p->ch[c];
         struct sight sight = {
@@ -1209,10 +1220,16 @@ static void check_wires(struct part *p, const uint8_t *s,
             broken = "hang";
         if (!(ch->told & TOLD_RESET) != !(due & 1u << c))
             broken = "reset";
+        if (log_pending(&levels, c) != (levels.ctrlstatus >> c & 1))
+            broken = "pending";
         if (broken != NULL) {
             fprintf(stderr, "channel %u: the logger differs: %s\n", c, broken);
             give_up();
         }
+    }
+    if (log_int(&levels) != int_pulled(p)) {
+        fprintf(stderr, "the logger differs: INT\n");
+        give_up();
     }
 }
 
