@@ -1,48 +1,73 @@
 -- Document 01, 'The part as the processor sees it': what CTRLINTMSK keeps, pending causes, and the interrupt; and BE, which no. 5 sets.
 use Prim.Native.Nat.{ℕ, _+_, _*_, _/_, _%_}
 use mathlib.Core.Bool.{Bool, true, false, not}
+use mathlib.Core.List.{List, [], _∷_}
 use lib.Dec.{eqb}
 use Rattle.laws.specs.Pick.{if_then_else_}
 use Rattle.rules.specs.declared.state.Flags.{Flags}
 use Rattle.rules.specs.Numbers.{pastBuffer}
-use Rattle.rules.specs.Registers.{bitOf}
+use Rattle.rules.specs.Registers.{bitOf, sdmsk, fldmsk, wemsk, remsk, femsk}
 
 -- CTRLINTMSK: 7 BE, 2 to 0 the channels; other bits kept 0
 abbrev pub ctrlKept : ℕ → ℕ
 ctrlKept v = v / 128 * 128 + v % 8
 
--- a cause that is set and whose mask bit, of weight w, is 0
-unfoldable pub unmaskedOf : Bool → ℕ → ℕ → Bool
-unmaskedOf cause mask w = if cause then not (bitOf mask w) else false
+-- its bits by their weights: 7 BEMSK, 2 CH2MSK, 1 CH1MSK, 0 CH0MSK (002, Table 31)
+abbrev pub bemsk : ℕ
+bemsk = 0x80
 
--- no CHSTATUS bit set; such a channel is not pending (`calm-pending`, Laws/Interrupt.antt)
-unfoldable pub calmOf : Flags → Bool
-calmOf f =
-    if f .sd then false else
-    if f .fld then false else
-    if f .we then false else
-    if f .re then false else
-    if f .dae then false else
-    if f .cle then false else
-    if f .sse then false else not (f .fe)
+abbrev pub ch2msk : ℕ
+ch2msk = 0x04
+
+abbrev pub ch1msk : ℕ
+ch1msk = 0x02
+
+abbrev pub ch0msk : ℕ
+ch0msk = 0x01
+
+-- ---- causes, a row each: the bit that is set beside the bit that masks it
+
+-- a row holds where the cause is set and its mask bit is 0
+infix 6 _unless_
+unfoldable pub _unless_ : Bool → Bool → Bool
+cause unless masked = if cause then not masked else false
+
+-- in place of a mask bit: DAE, CLE and SSE can't be masked
+abbrev pub never : Bool
+never = false
+
+-- some row holds
+unfoldable pub someOf : List Bool → Bool
+someOf [] = false
+someOf (row ∷ rows) = if row then true else someOf rows
+
+-- CHSTATUS beside INTMSK, bit 7 to bit 0
+unfoldable pub causesOf : Flags → ℕ → List Bool
+causesOf f mask =
+    (f .sd unless bitOf mask sdmsk) ∷  -- 7
+    (f .fld unless bitOf mask fldmsk) ∷  -- 6
+    (f .we unless bitOf mask wemsk) ∷  -- 5
+    (f .re unless bitOf mask remsk) ∷  -- 4
+    (f .dae unless never) ∷  -- 3
+    (f .cle unless never) ∷  -- 2
+    (f .sse unless never) ∷  -- 1
+    (f .fe unless bitOf mask femsk) ∷ []  -- 0
 
 -- channel pending (some CHSTATUS bit set whose INTMSK bit is 0)
 unfoldable pub pendingOf : Flags → ℕ → Bool
-pendingOf f mask =
-    if unmaskedOf (f .sd) mask 0x80 then true else
-    if unmaskedOf (f .fld) mask 0x40 then true else
-    if unmaskedOf (f .we) mask 0x20 then true else
-    if unmaskedOf (f .re) mask 0x10 then true else
-    if unmaskedOf (f .dae) mask 0x08 then true else
-    if unmaskedOf (f .cle) mask 0x04 then true else
-    if unmaskedOf (f .sse) mask 0x02 then true else unmaskedOf (f .fe) mask 0x01
+pendingOf f mask = someOf (causesOf f mask)
+
+-- BE and the channels that are pending beside CTRLINTMSK, bit 7 and bits 2 to 0
+unfoldable pub pullsOf : Bool → ℕ → Bool → Bool → Bool → List Bool
+pullsOf be mask ch0 ch1 ch2 =
+    (be unless bitOf mask bemsk) ∷  -- 7
+    (ch2 unless bitOf mask ch2msk) ∷  -- 2
+    (ch1 unless bitOf mask ch1msk) ∷  -- 1
+    (ch0 unless bitOf mask ch0msk) ∷ []  -- 0
 
 -- INT is pulled exactly when BE is set and bit 7 of CTRLINTMSK is 0, or a channel is pending and its CTRLINTMSK bit is 0
 unfoldable pub pulledBy : Bool → ℕ → Bool → Bool → Bool → Bool
-pulledBy be mask first second third =
-    if unmaskedOf be mask 0x80 then true else
-    if unmaskedOf first mask 0x01 then true else
-    if unmaskedOf second mask 0x02 then true else unmaskedOf third mask 0x04
+pulledBy be mask ch0 ch1 ch2 = someOf (pullsOf be mask ch0 ch1 ch2)
 
 -- no. 5, buffer boundary: BE set
 unfoldable pub beAfter : Bool → ℕ → Bool

@@ -1,2 +1,4 @@
 pub mod Interrupt
+pub mod Sentence
+pub mod Before
 pub mod Laws

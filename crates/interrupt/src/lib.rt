@@ -1,10 +1,16 @@
 // Document 01, 'The part as the processor sees it': what CTRLINTMSK keeps, pending causes, and the interrupt; and BE, which no. 5 sets.
 ghost use mathlib.Core.Path.{_≡_};
 ghost use Prim.Native.Nat.{_<_, _≤_};
-ghost use Rattle.rules.specs.Registers.{weigh};
-ghost use Rattle.interrupt.specs.Interrupt.{ctrlKept, unmaskedOf, calmOf, pendingOf, pulledBy, beAfter, maskIn};
+ghost use lib.Dec.{eqb};
+ghost use Rattle.rules.specs.Registers.{weigh, chstatusValue};
+ghost use Rattle.interrupt.specs.Interrupt.{ctrlKept, _unless_, someOf, causesOf, pendingOf, pullsOf, pulledBy, beAfter, maskIn};
+use rules::FEMSK;
+use rules::FLDMSK;
 use rules::Flags;
 use rules::PAST_BUFFER;
+use rules::REMSK;
+use rules::SDMSK;
+use rules::WEMSK;
 use rules::bit;
 
 // CTRLINTMSK as it is kept after v is written.
@@ -14,12 +20,54 @@ pub fn ctrl_kept(v: u8) -> u8
     v / 128 * 128 + v % 8
 }
 
-// A cause that is set, and whose mask bit, of weight w, is 0.
-fn unmasked(cause: bool, mask: u8, w: u8) -> bool
-    requires { ⌜ 0 < w ⌝ }
-    ensures { λ r. ⌜ r ≡ unmaskedOf cause mask w ⌝ }
+// CTRLINTMSK's bits, by their weights (002, Table 31).
+const BEMSK: u8 = 0x80;
+
+const CH2MSK: u8 = 0x04;
+
+const CH1MSK: u8 = 0x02;
+
+const CH0MSK: u8 = 0x01;
+
+// ---- causes, a row each: the bit that is set beside the bit that masks it
+
+fn unless(cause: bool, masked: bool) -> bool
+    ensures { λ r. ⌜ r ≡ cause unless masked ⌝ }
 {
-    if cause { !bit(mask, w) } else { false }
+    if cause { !masked } else { false }
+}
+
+// In place of a mask bit: DAE, CLE and SSE can't be masked.
+const NEVER: bool = false;
+
+// Whether some row holds.
+fn some(rows: &[bool]) -> bool
+    ensures { λ r. ⌜ r ≡ someOf (now (rows .entry)) ⌝ }
+{
+    let mut i = 0;
+    while i < rows.len() {
+        if rows[i] {
+            return true;
+        }
+        i += 1;
+    }
+    false
+}
+
+// CHSTATUS beside INTMSK, bit 7 to bit 0.
+fn causes(f: Flags, mask: u8) -> [bool; 8]
+    ensures { λ r. ⌜ r ≡ causesOf f mask ⌝ }
+{
+    [
+        unless(f.sd, bit(mask, SDMSK)), // 7
+        unless(f.fld, bit(mask, FLDMSK)), // 6
+        unless(f.we, bit(mask, WEMSK)), // 5
+        unless(f.re, bit(mask, REMSK)), // 4
+        unless(f.dae, NEVER), // 3
+        unless(f.cle, NEVER), // 2
+        unless(f.sse, NEVER), // 1
+        unless(f.fe, bit(mask, FEMSK)), // 0
+    ]
 }
 
 // A flag as a number.
@@ -29,9 +77,9 @@ fn number(flag: bool) -> u64
     flag as u64
 }
 
-// Whether no cause is set, masked or not. The flags stand side by side, so all eight are looked at as one word, which is quicker than one by one.
+// Whether CHSTATUS is 00h: no cause is set, masked or not. The flags stand side by side, so all eight are looked at as one word, which is quicker than one by one.
 fn calm(f: Flags) -> bool
-    ensures { λ r. ⌜ r ≡ calmOf f ⌝ }
+    ensures { λ r. ⌜ r ≡ eqb (chstatusValue f) 0 ⌝ }
 {
     let low = number(f.sd)
         + number(f.fld) * 0x100
@@ -44,34 +92,6 @@ fn calm(f: Flags) -> bool
     low + high * 0x100000000 == 0
 }
 
-// Whether some cause is set whose INTMSK bit is 0.
-fn some_unmasked(f: Flags, mask: u8) -> bool
-    ensures { λ r. ⌜ r ≡ pendingOf f mask ⌝ }
-{
-    if unmasked(f.sd, mask, 0x80) {
-        return true;
-    }
-    if unmasked(f.fld, mask, 0x40) {
-        return true;
-    }
-    if unmasked(f.we, mask, 0x20) {
-        return true;
-    }
-    if unmasked(f.re, mask, 0x10) {
-        return true;
-    }
-    if unmasked(f.dae, mask, 0x08) {
-        return true;
-    }
-    if unmasked(f.cle, mask, 0x04) {
-        return true;
-    }
-    if unmasked(f.sse, mask, 0x02) {
-        return true;
-    }
-    unmasked(f.fe, mask, 0x01)
-}
-
 // Whether a channel with these flags and this INTMSK is pending. Most often none is set, and that is told sooner.
 pub fn pending(f: Flags, mask: u8) -> bool
     ensures { λ r. ⌜ r ≡ pendingOf f mask ⌝ }
@@ -79,23 +99,26 @@ pub fn pending(f: Flags, mask: u8) -> bool
     if calm(f) {
         return false;
     }
-    some_unmasked(f, mask)
+    some(&causes(f, mask))
+}
+
+// BE and the channels that are pending beside CTRLINTMSK, bit 7 and bits 2 to 0.
+fn pulls(be: bool, mask: u8, ch0: bool, ch1: bool, ch2: bool) -> [bool; 4]
+    ensures { λ r. ⌜ r ≡ pullsOf be mask ch0 ch1 ch2 ⌝ }
+{
+    [
+        unless(be, bit(mask, BEMSK)), // 7
+        unless(ch2, bit(mask, CH2MSK)), // 2
+        unless(ch1, bit(mask, CH1MSK)), // 1
+        unless(ch0, bit(mask, CH0MSK)), // 0
+    ]
 }
 
 // Whether INT is pulled, by BE, CTRLINTMSK and the channels that are pending.
-pub fn pulled(be: bool, mask: u8, first: bool, second: bool, third: bool) -> bool
-    ensures { λ r. ⌜ r ≡ pulledBy be mask first second third ⌝ }
+pub fn pulled(be: bool, mask: u8, ch0: bool, ch1: bool, ch2: bool) -> bool
+    ensures { λ r. ⌜ r ≡ pulledBy be mask ch0 ch1 ch2 ⌝ }
 {
-    if unmasked(be, mask, 0x80) {
-        return true;
-    }
-    if unmasked(first, mask, 0x01) {
-        return true;
-    }
-    if unmasked(second, mask, 0x02) {
-        return true;
-    }
-    unmasked(third, mask, 0x04)
+    some(&pulls(be, mask, ch0, ch1, ch2))
 }
 
 // BE after an answer with this number.

@@ -3,4 +3,5 @@ pub mod Registers
 pub mod Step
 pub mod Facts
 pub mod Rows
+pub mod Sentence
 pub mod Laws

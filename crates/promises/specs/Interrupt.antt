@@ -12,8 +12,8 @@ ctrl-kept-once v = no-second (λ r h. h)
 pub pending-once : (f : Flags) (mask : ℕ) → Once Bool (λ r. r ≡ pendingOf f mask)
 pending-once f mask = no-second (λ r h. h)
 
-pub pulled-once : (be : Bool) (mask : ℕ) (first second third : Bool) → Once Bool (λ r. r ≡ pulledBy be mask first second third)
-pulled-once be mask first second third = no-second (λ r h. h)
+pub pulled-once : (be : Bool) (mask : ℕ) (ch0 ch1 ch2 : Bool) → Once Bool (λ r. r ≡ pulledBy be mask ch0 ch1 ch2)
+pulled-once be mask ch0 ch1 ch2 = no-second (λ r h. h)
 
 pub be-after-once : (be : Bool) (number : ℕ) → Once Bool (λ r. r ≡ beAfter be number)
 be-after-once be number = no-second (λ r h. h)

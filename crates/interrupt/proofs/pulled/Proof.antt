@@ -1,6 +1,6 @@
 -- `interrupt::pulled` meets its contract.
-use Rattle.laws.specs.Cases.{cases}
 use Rattle.interrupt.specs.Interrupt.{pulledBy}
+use Rattle.interrupt.specs.Laws.Interrupt.{rows}
 use borrow.Author.Needs.{needs}
 use Rattle.interrupt.proofs.pulled.Statement.{statement}
 use Rattle.interrupt.proofs.pulled.Tie as tie
@@ -11,10 +11,6 @@ pulled-spec =
     tie.close
     (tie.spec
     (λ c. λ κs. search needs)
-    (λ c. search cases depth 12)
+    (λ c. search needs)
     (λ c. λ κs. search needs)
-    (λ c. search cases depth 12)
-    (λ c. λ κs. search needs)
-    (λ c. search cases depth 12)
-    (λ c. λ κs. search needs)
-    (λ c. search cases depth 12))
+    (λ c. search rows))
