@@ -1,4 +1,3 @@
 pub mod Interrupt
 pub mod Sentence
-pub mod Before
 pub mod Laws
