@@ -1,3 +1,3 @@
 -- Laws of the definitions, for the proofs of functions and for the layers above. Nothing here needs to be believed: it is proved.
-pub mod Chstatus
+pub mod Bits
 pub mod Interrupt

@@ -1,6 +1,6 @@
 // Document 01, 'The part as the processor sees it': what CTRLINTMSK keeps, pending causes, and the interrupt; and BE, which no. 5 sets.
 ghost use mathlib.Core.Path.{_≡_};
-ghost use Prim.Native.Nat.{_<_, _≤_};
+ghost use Prim.Native.Nat.{_≤_};
 ghost use lib.Dec.{eqb};
 ghost use Rattle.rules.specs.Registers.{weigh, chstatusValue};
 ghost use Rattle.interrupt.specs.Interrupt.{ctrlKept, _unless_, someOf, causesOf, pendingOf, pullsOf, pulledBy, beAfter, maskIn};

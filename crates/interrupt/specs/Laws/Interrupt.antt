@@ -1,5 +1,5 @@
 -- A table of causes row by row; a channel with no CHSTATUS bit set is not pending; and BE is only ever set.
-use Prim.Native.Nat.{ℕ, suc, _+_, _*_, _<_, _≤_}
+use Prim.Native.Nat.{ℕ, _+_, _*_, _<_, _≤_}
 use mathlib.Core.Bool.{Bool, true, false}
 use mathlib.Core.List.{List, [], _∷_}
 use mathlib.Core.Path.{_≡_, refl, _∙_, sym}
@@ -15,7 +15,7 @@ use Rattle.rules.specs.declared.state.Flags.{Flags}
 use Rattle.rules.specs.Numbers.{pastBuffer}
 use Rattle.rules.specs.Registers.{weigh, chstatusValue}
 use Rattle.interrupt.specs.Interrupt.{_unless_, never, someOf, causesOf, pendingOf, beAfter}
-use Rattle.interrupt.specs.Laws.Chstatus.{by-ones, none, unset, both-none}
+use Rattle.interrupt.specs.Laws.Bits.{by-ones, none, unset, both-none}
 
 -- ---- rows put together
 pub row : (r r′ : Bool) (l l′ : List Bool) → r ≡ r′ → l ≡ l′ → (r ∷ l) ≡ (r′ ∷ l′)
@@ -59,10 +59,16 @@ three false false true rows h = refl
 three false false false rows h = absurd (omega (arith, false-not-true h))
 
 -- ---- CHSTATUS 00h
+by-flags : (f : Flags) → chstatusValue f
+    ≡ weigh (f .sd) 1 * 0x80 + weigh (f .fld) 1 * 0x40 + weigh (f .we) 1 * 0x20 + weigh (f .re) 1 * 0x10
+    + weigh (f .dae) 1 * 0x08 + weigh (f .cle) 1 * 0x04 + weigh (f .sse) 1 * 0x02 + weigh (f .fe) 1
+unfolding chstatusValue
+by-flags f = by-ones (f .sd) (f .fld) (f .we) (f .re) (f .dae) (f .cle) (f .sse) (f .fe)
+
 pub calm-pending : (f : Flags) (m : ℕ) → eqb (chstatusValue f) 0 ≡ true → pendingOf f m ≡ false
 unfolding pendingOf causesOf someOf _unless_ if_then_else_
 calm-pending f m e =
-    let h = none (sym (by-ones f) ∙ eqb-true (chstatusValue f) 0 e) in
+    let h = none (sym (by-flags f) ∙ eqb-true (chstatusValue f) 0 e) in
     rw (unset (f .sd) (h .0), unset (f .fld) (h .1), unset (f .we) (h .2), unset (f .re) (h .3), unset (f .dae) (h .4), unset (f .cle) (h .5), unset (f .sse) (h .6), unset (f .fe) (h .7))
 
 -- the flags as the bytes of a word: it is 0 exactly where CHSTATUS is
@@ -83,11 +89,11 @@ calm-word f r m n x y z u x′ y′ z′ u′ e em en ex ey ez eu ex′ ey′ ez
         let h = halves m n k in
         let l = bytes x y z u m em (h .0) in
         let l′ = bytes x′ y′ z′ u′ n en (h .1) in
-        by-ones f ∙ rw (sym ex ∙ l .0, sym ey ∙ l .1, sym ez ∙ l .2, sym eu ∙ l .3, sym ex′ ∙ l′ .0, sym ey′ ∙ l′ .1, sym ez′ ∙ l′ .2, sym eu′ ∙ l′ .3)
+        by-flags f ∙ rw (sym ex ∙ l .0, sym ey ∙ l .1, sym ez ∙ l .2, sym eu ∙ l .3, sym ex′ ∙ l′ .0, sym ey′ ∙ l′ .1, sym ez′ ∙ l′ .2, sym eu′ ∙ l′ .3)
 
     up : chstatusValue f ≡ 0 → m + n * 0x100000000 ≡ 0
     up k =
-        let h = none (sym (by-ones f) ∙ k) in
+        let h = none (sym (by-flags f) ∙ k) in
         rw (em, en, ex ∙ h .0, ey ∙ h .1, ez ∙ h .2, eu ∙ h .3, ex′ ∙ h .4, ey′ ∙ h .5, ez′ ∙ h .6, eu′ ∙ h .7)
 
 -- BE, which the channels share, is only ever set: it does not tell which of two answers came first

@@ -1,4 +1,4 @@
--- CHSTATUS by its bits: as it is read, each bit is the flag of its place.
+-- A byte that is summed up of its bits, taken apart again.
 use Prim.Native.Nat.{ℕ, _+_, _*_, _/_, _%_, _≤_}
 use mathlib.Core.Bool.{Bool, true, false}
 use mathlib.Core.Path.{_≡_, refl, _∙_}
@@ -6,20 +6,23 @@ use native.Mathlib.Omega.{arith}
 use borrow.Author.Tests.{eq-eqb, ne-eqb, eqb-true, eqb-false}
 use lib.Dec.{eqb}
 use Rattle.laws.specs.Pick.{if_then_else_}
-use Rattle.rules.specs.declared.state.Flags.{Flags}
-use Rattle.rules.specs.Registers.{weigh, bitOf, chstatusValue}
+use Rattle.rules.specs.Registers.{weigh, bitOf}
 
 -- ---- a bit as a number
 
-pub ones : (b : Bool) (w : ℕ) → weigh b w ≡ weigh b 1 * w
+ones : (b : Bool) (w : ℕ) → weigh b w ≡ weigh b 1 * w
 unfolding weigh if_then_else_
 ones true w = omega arith
 ones false w = omega arith
 
-pub at-most : (b : Bool) → weigh b 1 ≤ 1
+at-most : (b : Bool) → weigh b 1 ≤ 1
 unfolding weigh if_then_else_
 at-most true = omega arith
 at-most false = omega arith
+
+pub no-bit : (w : ℕ) → weigh false w ≡ 0
+unfolding weigh if_then_else_
+no-bit w = refl
 
 pub unset : (b : Bool) → weigh b 1 ≡ 0 → b ≡ false
 unfolding weigh if_then_else_
@@ -44,7 +47,6 @@ both-none m n f g = go (eqb m 0) refl
 
 -- ---- eight bits
 
--- a sum of eight bits by their weights, taken apart
 digits : (a b c d e f g h v : ℕ) → a ≤ 1 → b ≤ 1 → c ≤ 1 → d ≤ 1 → e ≤ 1 → f ≤ 1 → g ≤ 1 → h ≤ 1
     → v ≡ a * 0x80 + b * 0x40 + c * 0x20 + d * 0x10 + e * 0x08 + f * 0x04 + g * 0x02 + h
     → (v / 0x80 % 2 ≡ a) × (v / 0x40 % 2 ≡ b) × (v / 0x20 % 2 ≡ c) × (v / 0x10 % 2 ≡ d)
@@ -56,33 +58,35 @@ pub none : {a b c d e f g h : ℕ} → a * 0x80 + b * 0x40 + c * 0x20 + d * 0x10
     → (a ≡ 0) × (b ≡ 0) × (c ≡ 0) × (d ≡ 0) × (e ≡ 0) × (f ≡ 0) × (g ≡ 0) × (h ≡ 0)
 none s = (omega arith, omega arith, omega arith, omega arith, omega arith, omega arith, omega arith, omega arith)
 
-pub by-ones : (f : Flags) → chstatusValue f
-    ≡ weigh (f .sd) 1 * 0x80 + weigh (f .fld) 1 * 0x40 + weigh (f .we) 1 * 0x20 + weigh (f .re) 1 * 0x10
-    + weigh (f .dae) 1 * 0x08 + weigh (f .cle) 1 * 0x04 + weigh (f .sse) 1 * 0x02 + weigh (f .fe) 1
-unfolding chstatusValue
-by-ones f = rw (ones (f .sd) 0x80, ones (f .fld) 0x40, ones (f .we) 0x20, ones (f .re) 0x10, ones (f .dae) 0x08, ones (f .cle) 0x04, ones (f .sse) 0x02)
+module _ (a b c d e f g h : Bool) where
+  -- the byte with these bits, 7 to 0
+  abbrev pub byteOf : ℕ
+  byteOf = weigh a 0x80 + weigh b 0x40 + weigh c 0x20 + weigh d 0x10 + weigh e 0x08 + weigh f 0x04 + weigh g 0x02 + weigh h 0x01
 
--- CHSTATUS: 7 SD, 6 FLD, 5 WE, 4 RE, 3 DAE, 2 CLE, 1 SSE, 0 FE
-pub record Read (f : Flags) : Type 0 where
-  pub sd : bitOf (chstatusValue f) 0x80 ≡ f .sd
-  pub fld : bitOf (chstatusValue f) 0x40 ≡ f .fld
-  pub we : bitOf (chstatusValue f) 0x20 ≡ f .we
-  pub re : bitOf (chstatusValue f) 0x10 ≡ f .re
-  pub dae : bitOf (chstatusValue f) 0x08 ≡ f .dae
-  pub cle : bitOf (chstatusValue f) 0x04 ≡ f .cle
-  pub sse : bitOf (chstatusValue f) 0x02 ≡ f .sse
-  pub fe : bitOf (chstatusValue f) 0x01 ≡ f .fe
+  pub by-ones : byteOf
+      ≡ weigh a 1 * 0x80 + weigh b 1 * 0x40 + weigh c 1 * 0x20 + weigh d 1 * 0x10 + weigh e 1 * 0x08 + weigh f 1 * 0x04 + weigh g 1 * 0x02 + weigh h 1
+  by-ones = rw (ones a 0x80, ones b 0x40, ones c 0x20, ones d 0x10, ones e 0x08, ones f 0x04, ones g 0x02)
 
-pub read : (f : Flags) → Read f
-read f =
-    let d = digits _ _ _ _ _ _ _ _ _ (at-most (f .sd)) (at-most (f .fld)) (at-most (f .we)) (at-most (f .re)) (at-most (f .dae)) (at-most (f .cle)) (at-most (f .sse)) (at-most (f .fe)) (by-ones f) in
-    record {
-      sd = told (f .sd) _ (d .0);
-      fld = told (f .fld) _ (d .1);
-      we = told (f .we) _ (d .2);
-      re = told (f .re) _ (d .3);
-      dae = told (f .dae) _ (d .4);
-      cle = told (f .cle) _ (d .5);
-      sse = told (f .sse) _ (d .6);
-      fe = told (f .fe) _ (d .7);
-    }
+  pub record Bits (v : ℕ) : Type 0 where
+    pub seven : bitOf v 0x80 ≡ a
+    pub six : bitOf v 0x40 ≡ b
+    pub five : bitOf v 0x20 ≡ c
+    pub four : bitOf v 0x10 ≡ d
+    pub three : bitOf v 0x08 ≡ e
+    pub two : bitOf v 0x04 ≡ f
+    pub one : bitOf v 0x02 ≡ g
+    pub zero : bitOf v 0x01 ≡ h
+
+  pub bits : (v : ℕ) → v ≡ byteOf → Bits v
+  bits v s =
+      let n = digits _ _ _ _ _ _ _ _ _ (at-most a) (at-most b) (at-most c) (at-most d) (at-most e) (at-most f) (at-most g) (at-most h) (s ∙ by-ones) in
+      record {
+        seven = told a _ (n .0);
+        six = told b _ (n .1);
+        five = told c _ (n .2);
+        four = told d _ (n .3);
+        three = told e _ (n .4);
+        two = told f _ (n .5);
+        one = told g _ (n .6);
+        zero = told h _ (n .7);
+      }
