@@ -25,7 +25,8 @@ use Rattle.steps.specs.declared.map.Wide.{Wide}
 use Rattle.steps.specs.declared.map.Wide.the-variants.{CtrlWrite, CtrlRead, AllTrigger, AllReset, Beyond}
 use Rattle.steps.specs.declared.answer.Act.{Act}
 use Rattle.steps.specs.Facts.{InPart}
-use Rattle.steps.specs.Keys.{ctrlpresetOf, opWrites, wideWrites}
+use Rattle.steps.specs.Keys.{ctrlpresetOf, opWrites}
+use Rattle.steps.specs.Laws.Keys.{left-of}
 use Rattle.steps.specs.Answer.{quiet}
 use Rattle.head.specs.State.{plain}
 use Rattle.channel.specs.declared.state.Channel.{Channel}
@@ -217,13 +218,11 @@ module _ (p : Part) (c : ℕ) where
 
   left-at : (t : Target) → Left (chan (forgetting t p) c)
   unfolding forgetting
-  left-at (One op d) = pick-holds (λ (q : Part). Left (chan q c)) (opWrites op) (λ _. but-left d) (λ _. same-left)
-  left-at (All t) = pick-holds (λ (q : Part). Left (chan q c)) (wideWrites t) (λ _. but-left 3) (λ _. same-left)
+  left-at = left-of (λ (q : Part). Left (chan q c)) forgotten p same-left but-left
 
   pub left-size : (t : Target) → length (forgetting t p .channels) ≡ length (p .channels)
   unfolding forgetting
-  left-size (One op d) = pick-holds (λ (q : Part). length (q .channels) ≡ length (p .channels)) (opWrites op) (λ _. size-left p d) (λ _. refl)
-  left-size (All t) = pick-holds (λ (q : Part). length (q .channels) ≡ length (p .channels)) (wideWrites t) (λ _. size-left p 3) (λ _. refl)
+  left-size = left-of (λ (q : Part). length (q .channels) ≡ length (p .channels)) forgotten p refl (size-left p)
 
   left-own : (op : Op) → chan (forgetting (One op c) p) c ≡ chan p c
   unfolding forgetting

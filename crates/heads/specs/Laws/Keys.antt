@@ -11,8 +11,7 @@ use lib.Seq.{set-getD}
 use Rattle.laws.specs.Pick.{if_then_else_}
 use Rattle.laws.specs.Cases.{pick-holds, false-not-true}
 use Rattle.steps.specs.declared.map.Target.{Target}
-use Rattle.steps.specs.declared.map.Target.the-variants.{One, All}
-use Rattle.steps.specs.Keys.{opWrites, wideWrites}
+use Rattle.steps.specs.Laws.Keys.{left-of}
 use Rattle.head.specs.declared.state.Head.{Head}
 use Rattle.head.specs.State.{withKey}
 use Rattle.heads.specs.declared.Common.{Common}
@@ -88,5 +87,4 @@ module _ (h : Heads) (three : length (h .channels) ≡ 3) (e : keyedOf h ≡ fal
 
   -- A STEP FORGETS NONE
   pub none-forgotten : (t : Target) → headsLeft t h ≡ h
-  none-forgotten (One op c) = pick-holds (λ (x : Heads). x ≡ h) (opWrites op) (λ _. forgotten-same c) (λ _. refl)
-  none-forgotten (All t) = pick-holds (λ (x : Heads). x ≡ h) (wideWrites t) (λ _. forgotten-same 3) (λ _. refl)
+  none-forgotten = left-of (λ (x : Heads). x ≡ h) forgottenHeads h refl forgotten-same

@@ -20,7 +20,8 @@ use Rattle.steps.specs.declared.map.Wide.{Wide}
 use Rattle.steps.specs.declared.map.Target.the-variants.{One, All}
 use Rattle.steps.specs.declared.map.Wide.the-variants.{CtrlWrite, CtrlRead, AllTrigger, AllReset, Beyond}
 use Rattle.steps.specs.Map.{targetOf}
-use Rattle.steps.specs.Keys.{ctrlpresetOf, opWrites, wideWrites}
+use Rattle.steps.specs.Keys.{ctrlpresetOf}
+use Rattle.steps.specs.Laws.Keys.{left-of}
 use Rattle.steps.specs.Laws.Map.{in-part}
 use Rattle.steps.specs.Facts.{InPart}
 use Rattle.channel.specs.declared.state.Channel.{Channel}
@@ -134,8 +135,7 @@ module _ (p : Part) (h : In p) where
 
   left-in : (t : Target) → In (forgetting t p)
   unfolding forgetting
-  left-in (One op c) = pick-holds In (opWrites op) (λ _. forgotten-in c) (λ _. h)
-  left-in (All t) = pick-holds In (wideWrites t) (λ _. forgotten-in 3) (λ _. h)
+  left-in = left-of In forgotten p h forgotten-in
 
 served-in : (p : Part) → In p → (m : List ℕ) (t : Target) → length m ≡ memorySize → InPart t → Good (partServed p m t)
 unfolding partServed

@@ -5,7 +5,7 @@ use mathlib.Core.List.{List, [], _∷_, _++_, map}
 use mathlib.Core.Path.{_≡_, refl, sym, _∙_, ap, subst}
 use native.Mathlib.Omega.{arith}
 use borrow.Author.Tests.{not-true}
-use lib.ListN.{length, getD, set, take, drop, length-map, length-set}
+use lib.ListN.{length, getD, set, take, drop, length-map, length-set, List·getD-map}
 use lib.Seq.{drop-drop, getD-set-other, set-getD}
 use native.Mathlib.Nat.{add-sub-cancel-left}
 use Rattle.laws.specs.Pick.{if_then_else_}
@@ -90,22 +90,17 @@ map-set f [] i x = refl
 map-set f (y ∷ l) zero x = refl
 map-set {A} {B} f (y ∷ l) (suc i) x = ap (λ (t : List B). f y ∷ t) (map-set f l i x)
 
-map-at : {A B : Type 0} (f : A → B) (l : List A) (i : ℕ) (d : A) → getD (map f l) i (f d) ≡ f (getD l i d)
-map-at f [] i d = refl
-map-at f (x ∷ l) zero d = refl
-map-at f (x ∷ l) (suc i) d = map-at f l i d
-
 -- ---- taken apart, and put together
 module _ (p : Part) where
   at-apart : (c : ℕ) → channelOf (headsOf p) (rowsOf p) c ≡ chan p c
   at-apart c =
       let l = p .channels in
       rw (
-        map-at (λ (x : Channel). x .head) l c blank,
-        map-at (λ (x : Channel). x .slatable) l c blank,
-        map-at (λ (x : Channel). x .tranconfig) l c blank,
-        map-at (λ (x : Channel). x .status) l c blank,
-        map-at (λ (x : Channel). x .bytecount) l c blank,
+        List·getD-map (λ (x : Channel). x .head) l c blank,
+        List·getD-map (λ (x : Channel). x .slatable) l c blank,
+        List·getD-map (λ (x : Channel). x .tranconfig) l c blank,
+        List·getD-map (λ (x : Channel). x .status) l c blank,
+        List·getD-map (λ (x : Channel). x .bytecount) l c blank,
       )
 
   pub gathered-apart : length (p .channels) ≡ 3 → gathered (headsOf p) (rowsOf p) ≡ p
@@ -184,7 +179,7 @@ keyless-map {B} f g e (x ∷ l) = rw (e x) (ap (λ (t : List B). g (f x) ∷ t) 
 heads-but : (l : List Channel) (c : ℕ) → allBut keylessHead blankHead (map (λ (x : Channel). x .head) l) c ≡ map (λ (x : Channel). x .head) (allBut keyless blank l c)
 heads-but l c =
     let head : Channel → Head = λ x. x .head in
-    rw (keyless-map head keylessHead (λ x. refl) l, map-at head l c blank) (map-set head (map keyless l) c (getD l c blank))
+    rw (keyless-map head keylessHead (λ x. refl) l, List·getD-map head l c blank) (map-set head (map keyless l) c (getD l c blank))
 
 -- a table stays
 table-but : {B : Type 0} (f : Channel → B) → ((x : Channel) → f (keyless x) ≡ f x) → (l : List Channel) (c : ℕ) → map f (allBut keyless blank l c) ≡ map f l
