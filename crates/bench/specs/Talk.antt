@@ -1,11 +1,10 @@
 -- What the program reads and what it hands to `write`, piece by piece; put together they are a script and its output (`talk-output`, Laws/Talk.antt).
-use Prim.Native.Nat.{ℕ, _<_, _≤_}
+use Prim.Native.Nat.{ℕ, _≤_}
 use mathlib.Core.Bool.{Bool, false}
 use mathlib.Core.List.{List, [], _++_}
 use mathlib.Core.Path.{_≡_}
 use lib.Dec.{ltb}
 use lib.ListN.{length, take}
-use Rattle.part.specs.State.{wiped}
 use Rattle.part.specs.Facts.{Whole}
 use Rattle.answers.specs.Answer.{header}
 use Rattle.runner.specs.declared.lines.Start.{Start}

@@ -2,7 +2,7 @@
 use Prim.Native.Nat.{ℕ}
 use mathlib.Core.Bool.{Bool}
 use mathlib.Core.List.{List}
-use mathlib.Core.Path.{_≡_, ap}
+use mathlib.Core.Path.{_≡_}
 use Rattle.rules.specs.declared.wires.Edge.{Edge}
 use Rattle.steps.specs.declared.map.Op.{Op}
 use Rattle.head.specs.declared.state.Head.{Head}

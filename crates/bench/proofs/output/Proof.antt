@@ -2,7 +2,6 @@
 use Prim.Native.Nat.{ℕ, _*_}
 use Rattle.bench.specs.Talk.{blockSize}
 use Rattle.answers.specs.Answer.{answerRoom}
-use borrow.Author.Needs.{needs}
 use lib.ListN.{length-replicate}
 use Rattle.bench.proofs.output.Statement.{statement}
 use Rattle.bench.proofs.output.Tie as tie

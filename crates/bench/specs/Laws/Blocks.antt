@@ -17,8 +17,8 @@ use Rattle.script.specs.Grammar.{lineRoom}
 use Rattle.answers.specs.Answer.{Put, textIf, answerRoom, roomy, header}
 use Rattle.runner.specs.declared.answering.Course.{Course}
 use Rattle.runner.specs.declared.lines.Start.{Start}
-use Rattle.runner.specs.Lines.{firstLf, noLine, lengthened, keptOf, keptBytes}
-use Rattle.runner.specs.Text.{Desk, Sitting, endedLines, restOf, fed, said, opening}
+use Rattle.runner.specs.Lines.{noLine, lengthened, keptOf, keptBytes}
+use Rattle.runner.specs.Text.{Desk, Sitting, restOf, fed, said, opening}
 use Rattle.runner.specs.Feeding.{deskOf, linesFrom, shortened, Answered}
 use Rattle.runner.specs.Laws.Kept.{after-whole, rest-unended, take-unended, again-fed, again-said, end-said, none-said, put-text}
 use Rattle.runner.specs.Laws.Lines.{kept-few, kept-first, put-before, put-stays}

@@ -1,7 +1,7 @@
 -- The pieces that the program reads and hands to `write` are a script and its output.
 use Prim.Native.Nat.{ℕ, _<_}
 use mathlib.Core.Bool.{Bool, true, false}
-use mathlib.Core.List.{List, [], _∷_, _++_, append-nil, append-assoc}
+use mathlib.Core.List.{List, [], _++_, append-nil, append-assoc}
 use mathlib.Core.Path.{_≡_, refl, sym, _∙_, ap}
 use native.Mathlib.Omega.{arith}
 use borrow.Author.Tests.{ltb-true}
@@ -13,11 +13,10 @@ use Rattle.runner.specs.Text.{Sitting, fed, said, lastSaid, opening, outputOf, 
 use Rattle.runner.specs.Feeding.{shortened}
 use Rattle.runner.specs.Laws.Text.{fed-split, said-split, output-said}
 use Rattle.runner.specs.Laws.Kept.{shortened-said, shortened-fed, shortened-last}
-use Rattle.bench.specs.declared.Bench.{Bench}
 use Rattle.bench.specs.declared.Seat.{Seat}
 use Rattle.bench.specs.declared.How.{How}
 use Rattle.bench.specs.declared.How.the-variants.{On, Ended, Unread, Unwritten}
-use Rattle.bench.specs.Talk.{sittingOf, Written, goingOn, Turned, Talk}
+use Rattle.bench.specs.Talk.{sittingOf, Written, goingOn, Talk}
 use Rattle.bench.specs.Talk.Written.{taken, lost}
 use Rattle.bench.specs.Talk.Turned.{read, ended, unread}
 use Rattle.bench.specs.Talk.Talk.{begun, more}

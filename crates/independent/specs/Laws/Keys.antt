@@ -19,7 +19,6 @@ use Rattle.steps.specs.declared.map.Op.the-variants.{Write, Read, Wire}
 use Rattle.steps.specs.declared.map.Step.{Step}
 use Rattle.steps.specs.declared.map.Target.{Target}
 use Rattle.steps.specs.declared.map.Target.the-variants.{One, All}
-use Rattle.steps.specs.declared.map.Wide.{Wide}
 use Rattle.steps.specs.declared.map.Wide.the-variants.{CtrlWrite, CtrlRead, AllTrigger, AllReset, Beyond}
 use Rattle.steps.specs.Facts.{InPart}
 use Rattle.steps.specs.Keys.{ctrlpresetOf, opWrites}

@@ -1,13 +1,13 @@
 -- The lines of a block, one by one, and the text of their answers.
-use Prim.Native.Nat.{ℕ, zero, suc, _+_, _*_, _-_, _<_, _≤_}
+use Prim.Native.Nat.{ℕ, _+_, _-_, _<_, _≤_}
 use mathlib.Core.Bool.{Bool, true, false}
 use mathlib.Core.List.{List, [], _∷_, _++_, append-nil, append-assoc}
-use mathlib.Core.Path.{_≡_, refl, sym, _∙_, ap, subst}
+use mathlib.Core.Path.{_≡_, refl, sym, _∙_, ap}
 use native.Mathlib.Nat.{add-sub-cancel-left}
 use native.Mathlib.Numerals.{add-one}
 use native.Mathlib.Omega.{arith}
 use borrow.Author.Tests.{ltb-true, ltb-false, le-leb}
-use lib.Dec.{eqb, ltb, leb}
+use lib.Dec.{eqb, ltb}
 use lib.ListN.{length, take, drop, length-append, length-drop}
 use lib.Seq.{drop-drop, length-sets}
 use Rattle.laws.specs.Sets.{sets-append}
@@ -26,7 +26,7 @@ use Rattle.runner.specs.declared.answering.Course.{Course}
 use Rattle.runner.specs.Lines.{firstLf, lineEnd}
 use Rattle.runner.specs.Text.{Desk, endedLines, restOf, afterOne, replyTo, afterAll, repliesTo, numberAfter}
 use Rattle.runner.specs.Feeding.{deskOf, linesFrom, Room, Answered}
-use Rattle.runner.specs.Laws.Lines.{end-after, end-in}
+use Rattle.runner.specs.Laws.Lines.{end-after}
 use Rattle.runner.specs.Laws.Performing.{Performs, performed, performed-whole}
 
 -- ---- the next line of some bytes

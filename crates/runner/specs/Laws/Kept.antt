@@ -11,7 +11,7 @@ use lib.Seq.{sets-eq, take-all, take-append-seam}
 use Rattle.laws.specs.Pick.{if_then_else_}
 use Rattle.script.specs.Grammar.{lineRoom}
 use Rattle.answers.specs.Answer.{Put}
-use Rattle.runner.specs.Text.{endedLines, restOf, lastLine, Desk, Sitting, afterOne, replyTo, afterAll, repliesTo, fed, said, lastSaid}
+use Rattle.runner.specs.Text.{endedLines, restOf, lastLine, Desk, Sitting, afterOne, afterAll, repliesTo, fed, said, lastSaid}
 use Rattle.runner.specs.Lines.{firstLf}
 use Rattle.runner.specs.Feeding.{shortened}
 use Rattle.runner.specs.Laws.Feeding.{no-line-ends, all-rest, after-whole-one, put-length}

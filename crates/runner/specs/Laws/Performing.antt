@@ -20,7 +20,6 @@ use Rattle.part.specs.Laws.Kept.{whole-kept}
 use Rattle.part.specs.Laws.Range.{whole-accepts, step-accepted, bytes-accepted}
 use Rattle.part.specs.Laws.Rows.{holds-part, left-holds, none-left, one-gives}
 use Rattle.part.specs.Facts.{Whole}
-use Rattle.independent.specs.Statement.{State}
 use Rattle.script.specs.declared.reading.Line.{Line}
 use Rattle.script.specs.declared.reading.Line.the-variants.{Readable, Unreadable}
 use Rattle.runner.specs.declared.answering.Aim.{Aim}

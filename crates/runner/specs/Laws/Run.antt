@@ -1,8 +1,7 @@
 -- Lines of different channels keep apart, as their steps do; and a run of lines is one of the part's steps.
 use Prim.Native.Nat.{ℕ, _<_}
 use mathlib.Core.Bool.{false}
-use mathlib.Core.List.{List}
-use mathlib.Core.Path.{_≡_, refl, ap}
+use mathlib.Core.Path.{_≡_, refl}
 use native.Mathlib.Omega.{arith}
 use Rattle.laws.specs.Pick.{if_then_else_}
 use Rattle.steps.specs.Facts.{InPart}

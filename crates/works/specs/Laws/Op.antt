@@ -1,7 +1,7 @@
 -- An access or an event that does not write to PRESET is a work, by the channel's rules.
 use Prim.Native.Nat.{ℕ}
 use mathlib.Core.Bool.{Bool, true, false}
-use mathlib.Core.List.{List, []}
+use mathlib.Core.List.{[]}
 use mathlib.Core.Path.{_≡_, refl, ap}
 use Rattle.laws.specs.Pick.{if_then_else_}
 use Rattle.steps.specs.declared.map.Op.{Op}
@@ -13,7 +13,7 @@ use Rattle.channel.specs.Step.{servedBy}
 use Rattle.channel.specs.Laws.Kept.{serves-in-range, served-length}
 use Rattle.part.specs.declared.state.Part.{Part}
 use Rattle.part.specs.State.{chan, window}
-use Rattle.part.specs.Step.{oneStep, oneBytes, oneTold, forgetting}
+use Rattle.part.specs.Step.{oneStep, oneBytes, forgetting}
 use Rattle.part.specs.Laws.Keys.{own-left}
 use Rattle.works.specs.Keys.{writesPreset}
 use Rattle.works.specs.State.{State}

@@ -22,7 +22,7 @@ use Rattle.part.specs.Laws.Kept.{set-in, chan-accepted, forgotten-whole}
 use Rattle.part.specs.Laws.Keys.{other-left}
 use Rattle.part.specs.Facts.{Whole}
 use Rattle.works.specs.State.{State, Accepted}
-use Rattle.works.specs.Work.{Own, Sound, Work, unkeyed, leftFor, ownOf, workAfter, workGives}
+use Rattle.works.specs.Work.{Own, Sound, Work, leftFor, ownOf, workAfter, workGives}
 
 -- ---- channels where every key but one is forgotten, and what is put among them
 abbrev putIn : List Channel → ℕ → Channel → Bool → List Channel

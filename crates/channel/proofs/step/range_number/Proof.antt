@@ -1,7 +1,6 @@
 -- `channel::step::range_number` meets its contract.
 use Rattle.channel.specs.Step.{rangeNumber}
 use Rattle.laws.specs.Cases.{cases}
-use borrow.Author.Needs.{needs}
 use Rattle.channel.proofs.step.range_number.Statement.{statement}
 use Rattle.channel.proofs.step.range_number.Tie as tie
 

@@ -1,6 +1,6 @@
 -- `part::rows::serve` meets its contract: what the step forgets, and then a step of one channel, or of the whole part.
 use Prim.Native.Nat.{_<_}
-use mathlib.Core.Path.{_≡_, subst}
+use mathlib.Core.Path.{subst}
 use borrow.Author.Needs.{needs}
 use denote.Ref.{now}
 use Rattle.steps.specs.declared.map.Target.{Target}

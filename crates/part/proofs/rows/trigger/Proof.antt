@@ -1,5 +1,5 @@
 -- `part::rows::trigger` meets its contract: where no channel has TE 1, all is left.
-use mathlib.Core.Path.{_≡_, sym, _∙_}
+use mathlib.Core.Path.{sym, _∙_}
 use borrow.Author.Needs.{needs}
 use Rattle.part.specs.Laws.Rows.{tells-gives, unarmed-unmoved}
 use Rattle.rules.specs.Numbers.{done}

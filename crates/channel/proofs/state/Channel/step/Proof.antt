@@ -3,7 +3,7 @@ use Rattle.channel.proofs.Laws.Access.{guarded-no, guarded-yes}
 use Rattle.channel.proofs.Laws.Step.{accepts, steps}
 use Rattle.channel.specs.Step.{rangeNumber, outcomeOf}
 use borrow.Author.Needs.{needs}
-use mathlib.Core.Path.{_≡_, _∙_, ap}
+use mathlib.Core.Path.{_∙_, ap}
 use Rattle.channel.proofs.state.Channel.step.Statement.{statement}
 use Rattle.channel.proofs.state.Channel.step.Tie as tie
 

@@ -1,5 +1,5 @@
 -- `part::state::Part::advance` meets its contract: the part taken apart, served, and put together.
-use mathlib.Core.Path.{_≡_, refl}
+use mathlib.Core.Path.{refl}
 use borrow.Author.Needs.{needs}
 use Rattle.part.specs.Laws.Rows.{gives-step, holds-part, holds-ready, step-by}
 use Rattle.part.proofs.state.Part.advance.Statement.{statement}
