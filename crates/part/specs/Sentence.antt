@@ -4,7 +4,7 @@ use mathlib.Core.Bool.{true}
 use mathlib.Core.Path.{_≡_, refl}
 use Rattle.rules.specs.Registers.{chstatusValue}
 use Rattle.bounds.specs.Laws.Range.{registers-mask}
-use Rattle.interrupt.specs.Sentence.{someUnmasked, allBits, causeBits, as-the-sentence, as-ctrlstatus}
+use Rattle.interrupt.specs.Sentence.{Exactly, SomeUnmasked, allBits, causeBits, as-the-sentence, as-ctrlstatus}
 use Rattle.channel.specs.Laws.Range.{range-registers}
 use Rattle.part.specs.declared.state.Part.{Part}
 use Rattle.part.specs.State.{chan}
@@ -14,10 +14,10 @@ use Rattle.part.specs.Laws.Range.{chan-in-range}
 
 -- channel pending (some CHSTATUS bit set whose INTMSK bit is 0)
 pub pending-as-read : (p : Part) (c : ℕ) → partIn p ≡ true
-    → pendingAt p c ≡ someUnmasked allBits (chstatusValue (chan p c .head .flags)) (chan p c .head .regs .intmsk)
+    → Exactly (pendingAt p c) (SomeUnmasked allBits (chstatusValue (chan p c .head .flags)) (chan p c .head .regs .intmsk))
 pending-as-read p c e = as-the-sentence _ _ (registers-mask _ _ _ (range-registers (chan p c) (chan-in-range p c e)))
 
 -- INT is pulled exactly when BE is set and bit 7 of CTRLINTMSK is 0, or a channel is pending and its CTRLINTMSK bit is 0
-pub int-as-read : (p : Part) → interruptOf p ≡ someUnmasked causeBits (ctrlstatusOf p) (p .mask)
+pub int-as-read : (p : Part) → Exactly (interruptOf p) (SomeUnmasked causeBits (ctrlstatusOf p) (p .mask))
 unfolding interruptOf ctrlstatusOf
 int-as-read p = as-ctrlstatus (p .be) (activeAt p 2) (activeAt p 1) (activeAt p 0) (pendingAt p 2) (pendingAt p 1) (pendingAt p 0) _ (p .mask) refl

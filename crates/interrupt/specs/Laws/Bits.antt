@@ -54,16 +54,12 @@ digits : (a b c d e f g h v : ℕ) → a ≤ 1 → b ≤ 1 → c ≤ 1 → d ≤
 digits a b c d e f g h v a1 b1 c1 d1 e1 f1 g1 h1 s =
     (omega arith, omega arith, omega arith, omega arith, omega arith, omega arith, omega arith, omega arith)
 
-pub none : {a b c d e f g h : ℕ} → a * 0x80 + b * 0x40 + c * 0x20 + d * 0x10 + e * 0x08 + f * 0x04 + g * 0x02 + h ≡ 0
-    → (a ≡ 0) × (b ≡ 0) × (c ≡ 0) × (d ≡ 0) × (e ≡ 0) × (f ≡ 0) × (g ≡ 0) × (h ≡ 0)
-none s = (omega arith, omega arith, omega arith, omega arith, omega arith, omega arith, omega arith, omega arith)
-
 module _ (a b c d e f g h : Bool) where
   -- the byte with these bits, 7 to 0
   abbrev pub byteOf : ℕ
   byteOf = weigh a 0x80 + weigh b 0x40 + weigh c 0x20 + weigh d 0x10 + weigh e 0x08 + weigh f 0x04 + weigh g 0x02 + weigh h 0x01
 
-  pub by-ones : byteOf
+  by-ones : byteOf
       ≡ weigh a 1 * 0x80 + weigh b 1 * 0x40 + weigh c 1 * 0x20 + weigh d 1 * 0x10 + weigh e 1 * 0x08 + weigh f 1 * 0x04 + weigh g 1 * 0x02 + weigh h 1
   by-ones = rw (ones a 0x80, ones b 0x40, ones c 0x20, ones d 0x10, ones e 0x08, ones f 0x04, ones g 0x02)
 

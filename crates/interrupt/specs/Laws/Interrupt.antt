@@ -1,21 +1,23 @@
 -- A table of causes row by row; a channel with no CHSTATUS bit set is not pending; and BE is only ever set.
-use Prim.Native.Nat.{ℕ, _+_, _*_, _<_, _≤_}
-use mathlib.Core.Bool.{Bool, true, false}
-use mathlib.Core.List.{List, [], _∷_}
+use Prim.Native.Nat.{ℕ, zero, suc, _+_, _*_, _<_, _≤_}
+use mathlib.Core.Bool.{Bool, true, false, not}
+use mathlib.Core.List.{List, [], _∷_, map}
+use mathlib.Core.Logic.{_⊎_, inl, inr, ⊎-elim}
 use mathlib.Core.Path.{_≡_, refl, _∙_, sym}
 use native.Mathlib.Numerals.{add-one}
 use native.Mathlib.Omega.{arith}
-use borrow.Author.Tests.{eqb-true}
+use borrow.Author.Tests.{eqb-true, not-true}
 use lib.Dec.{eqb}
 use lib.ListN.{getD, drop, length, drop-of-length-le}
 use lib.Seq.{drop-cons}
 use Rattle.laws.specs.Pick.{if_then_else_}
-use Rattle.laws.specs.Cases.{false-not-true}
+use Rattle.laws.specs.Cases.{false-not-true, both}
+use Rattle.laws.specs.Lists.{Some}
 use Rattle.rules.specs.declared.state.Flags.{Flags}
 use Rattle.rules.specs.Numbers.{pastBuffer}
-use Rattle.rules.specs.Registers.{weigh, chstatusValue}
-use Rattle.interrupt.specs.Interrupt.{_unless_, never, someOf, causesOf, pendingOf, beAfter}
-use Rattle.interrupt.specs.Laws.Bits.{by-ones, none, unset, both-none}
+use Rattle.rules.specs.Registers.{bitOf, weigh, chstatusValue}
+use Rattle.interrupt.specs.Interrupt.{_unless_, someOf, causesOf, pendingOf, beAfter}
+use Rattle.interrupt.specs.Laws.Bits.{bits, unset, both-none}
 
 -- ---- rows put together
 pub row : (r r′ : Bool) (l l′ : List Bool) → r ≡ r′ → l ≡ l′ → (r ∷ l) ≡ (r′ ∷ l′)
@@ -45,31 +47,61 @@ module _ (rows : List Bool) (i : ℕ) (e : someOf rows ≡ someOf (drop i rows))
 
 pub ruleset looked = (holds-here, holds-behind, holds-nowhere)
 
--- ---- the first rows
-pub behind : (row : Bool) (rows : List Bool) → someOf rows ≡ true → someOf (row ∷ rows) ≡ true
+-- ---- what a row says, and what some row says
+module _ (cause masked : Bool) where
+  pub row-says : (cause unless masked) ≡ true → (cause ≡ true) × (masked ≡ false)
+  unfolding _unless_
+  row-says e = let h = both cause (not masked) e in (h .0, not-true masked (h .1))
+
+  pub row-holds : cause ≡ true → masked ≡ false → (cause unless masked) ≡ true
+  unfolding _unless_ if_then_else_
+  row-holds p q = rw (p, q)
+
+behind : (row : Bool) (rows : List Bool) → someOf rows ≡ true → someOf (row ∷ rows) ≡ true
 unfolding someOf if_then_else_
 behind true rows h = refl
 behind false rows h = h
 
-pub three : (a b c : Bool) (rows : List Bool) → someOf (a ∷ b ∷ c ∷ []) ≡ true → someOf ((a unless never) ∷ (b unless never) ∷ (c unless never) ∷ rows) ≡ true
-unfolding someOf _unless_ if_then_else_
-three true b c rows h = refl
-three false true c rows h = refl
-three false false true rows h = refl
-three false false false rows h = absurd (omega (arith, false-not-true h))
+-- the i-th row holds
+pub holds-at : (rows : List Bool) (i : ℕ) → getD rows i false ≡ true → someOf rows ≡ true
+unfolding someOf if_then_else_
+holds-at [] i e = e
+holds-at (row ∷ rows) zero e = rw e
+holds-at (row ∷ rows) (suc i) e = behind row rows (holds-at rows i e)
+
+first : (row : Bool) (rows : List Bool) → someOf (row ∷ rows) ≡ true → (row ≡ true) ⊎ (someOf rows ≡ true)
+unfolding someOf if_then_else_
+first true rows e = inl refl
+first false rows e = inr e
+
+-- a row for each of these bits: some row holds exactly where some bit is 1 in the register and 0 in its mask
+module _ (register mask : ℕ) where
+  abbrev rowOf : ℕ → Bool
+  rowOf w = bitOf register w unless bitOf mask w
+
+  abbrev Unmasked : ℕ → Type 0
+  Unmasked w = (bitOf register w ≡ true) × (bitOf mask w ≡ false)
+
+  pub some-bit : (weights : List ℕ) → someOf (map rowOf weights) ≡ true → Some Unmasked weights
+  unfolding someOf
+  some-bit [] e = absurd (omega (arith, false-not-true e))
+  some-bit (w ∷ l) e = ⊎-elim (λ (h : rowOf w ≡ true). inl (row-says _ _ h)) (λ (h : someOf (map rowOf l) ≡ true). inr (some-bit l h)) (first (rowOf w) (map rowOf l) e)
+
+  pub of-some-bit : (weights : List ℕ) → Some Unmasked weights → someOf (map rowOf weights) ≡ true
+  of-some-bit (w ∷ l) (inl h) = holds-at (map rowOf (w ∷ l)) 0 (row-holds _ _ (h .0) (h .1))
+  of-some-bit (w ∷ l) (inr h) = behind (rowOf w) (map rowOf l) (of-some-bit l h)
 
 -- ---- CHSTATUS 00h
-by-flags : (f : Flags) → chstatusValue f
-    ≡ weigh (f .sd) 1 * 0x80 + weigh (f .fld) 1 * 0x40 + weigh (f .we) 1 * 0x20 + weigh (f .re) 1 * 0x10
-    + weigh (f .dae) 1 * 0x08 + weigh (f .cle) 1 * 0x04 + weigh (f .sse) 1 * 0x02 + weigh (f .fe) 1
+all-off : (f : Flags) → chstatusValue f ≡ 0
+    → (f .sd ≡ false) × (f .fld ≡ false) × (f .we ≡ false) × (f .re ≡ false) × (f .dae ≡ false) × (f .cle ≡ false) × (f .sse ≡ false) × (f .fe ≡ false)
 unfolding chstatusValue
-by-flags f = by-ones (f .sd) (f .fld) (f .we) (f .re) (f .dae) (f .cle) (f .sse) (f .fe)
+all-off f e =
+    let b = bits (f .sd) (f .fld) (f .we) (f .re) (f .dae) (f .cle) (f .sse) (f .fe) 0 (sym e) in
+    (sym (b .seven), sym (b .six), sym (b .five), sym (b .four), sym (b .three), sym (b .two), sym (b .one), sym (b .zero))
 
 pub calm-pending : (f : Flags) (m : ℕ) → eqb (chstatusValue f) 0 ≡ true → pendingOf f m ≡ false
 unfolding pendingOf causesOf someOf _unless_ if_then_else_
-calm-pending f m e =
-    let h = none (sym (by-flags f) ∙ eqb-true (chstatusValue f) 0 e) in
-    rw (unset (f .sd) (h .0), unset (f .fld) (h .1), unset (f .we) (h .2), unset (f .re) (h .3), unset (f .dae) (h .4), unset (f .cle) (h .5), unset (f .sse) (h .6), unset (f .fe) (h .7))
+calm-pending f m e = let h = all-off f (eqb-true (chstatusValue f) 0 e) in rw (h .0, h .1, h .2, h .3, h .4, h .5, h .6, h .7)
 
 -- the flags as the bytes of a word: it is 0 exactly where CHSTATUS is
 halves : (m n : ℕ) → m + n * 0x100000000 ≡ 0 → (m ≡ 0) × (n ≡ 0)
@@ -82,6 +114,7 @@ pub calm-word : (f : Flags) (r : Bool) (m n x y z u x′ y′ z′ u′ : ℕ) �
     → m ≡ x + y * 0x100 + z * 0x10000 + u * 0x1000000 → n ≡ x′ + y′ * 0x100 + z′ * 0x10000 + u′ * 0x1000000
     → x ≡ weigh (f .sd) 1 → y ≡ weigh (f .fld) 1 → z ≡ weigh (f .we) 1 → u ≡ weigh (f .re) 1
     → x′ ≡ weigh (f .dae) 1 → y′ ≡ weigh (f .cle) 1 → z′ ≡ weigh (f .sse) 1 → u′ ≡ weigh (f .fe) 1 → r ≡ eqb (chstatusValue f) 0
+unfolding chstatusValue weigh if_then_else_
 calm-word f r m n x y z u x′ y′ z′ u′ e em en ex ey ez eu ex′ ey′ ez′ eu′ = e ∙ both-none (m + n * 0x100000000) (chstatusValue f) down up
   where
     down : m + n * 0x100000000 ≡ 0 → chstatusValue f ≡ 0
@@ -89,12 +122,21 @@ calm-word f r m n x y z u x′ y′ z′ u′ e em en ex ey ez eu ex′ ey′ ez
         let h = halves m n k in
         let l = bytes x y z u m em (h .0) in
         let l′ = bytes x′ y′ z′ u′ n en (h .1) in
-        by-flags f ∙ rw (sym ex ∙ l .0, sym ey ∙ l .1, sym ez ∙ l .2, sym eu ∙ l .3, sym ex′ ∙ l′ .0, sym ey′ ∙ l′ .1, sym ez′ ∙ l′ .2, sym eu′ ∙ l′ .3)
+        rw (
+          unset (f .sd) (sym ex ∙ l .0),
+          unset (f .fld) (sym ey ∙ l .1),
+          unset (f .we) (sym ez ∙ l .2),
+          unset (f .re) (sym eu ∙ l .3),
+          unset (f .dae) (sym ex′ ∙ l′ .0),
+          unset (f .cle) (sym ey′ ∙ l′ .1),
+          unset (f .sse) (sym ez′ ∙ l′ .2),
+          unset (f .fe) (sym eu′ ∙ l′ .3),
+        )
 
     up : chstatusValue f ≡ 0 → m + n * 0x100000000 ≡ 0
     up k =
-        let h = none (sym (by-flags f) ∙ k) in
-        rw (em, en, ex ∙ h .0, ey ∙ h .1, ez ∙ h .2, eu ∙ h .3, ex′ ∙ h .4, ey′ ∙ h .5, ez′ ∙ h .6, eu′ ∙ h .7)
+        let h = all-off f k in
+        rw (em, en, ex, ey, ez, eu, ex′, ey′, ez′, eu′, h .0, h .1, h .2, h .3, h .4, h .5, h .6, h .7)
 
 -- BE, which the channels share, is only ever set: it does not tell which of two answers came first
 pub be-swap : (be : Bool) (x y : ℕ) → beAfter (beAfter be x) y ≡ beAfter (beAfter be y) x
