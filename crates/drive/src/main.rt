@@ -7,7 +7,9 @@ use head::Answer;
 use libc::STDOUT_FILENO;
 use rules::Action;
 use rules::BUFFER;
+use rules::Decoded;
 use rules::Event;
+use rules::Level;
 use steps::Op;
 
 // ---- what is printed
@@ -26,10 +28,16 @@ fn say_byte(b: u8) {
     say_hex(b);
 }
 
+fn say_ninth(l: Level) {
+    match l {
+        Level::Low => say(b"ACK"),
+        Level::High => say(b"NACK"),
+    }
+}
+
 fn say_event(e: Event) {
     match e {
-        Event::Ack => say(b"ACK"),
-        Event::Nack => say(b"NACK"),
+        Event::Ninth(l) => say_ninth(l),
         Event::Byte(b) => say_byte(b),
         Event::Tick => say(b"TICK"),
         Event::Stop => say(b"STOP"),
@@ -93,7 +101,8 @@ fn say_answer(a: Answer) {
     say(b"\n");
 }
 
-// ---- the sheet, a number a row: the sheet's line; 0 a fresh channel, 1 a write, 2 a read, 3 ACK, 4 NACK, 5 BYTE, 6 TICK, 7 STOP; two bytes for it
+// ---- the sheet, a number a row: the sheet's line; 0 a fresh channel, 1 a write, 2 a read, from 9 on the kind of an event (9 ACK, A BYTE, B NACK, C TICK,
+// D STOP); two bytes for it
 
 const ROWS: usize = 105;
 
@@ -112,9 +121,9 @@ const SHEET: [u32; 105] = [
     0x3_1_C5_7E,
     0x3_1_C0_60,
     0x3_2_C0_00,
-    0x3_3_00_00,
-    0x3_3_00_00,
-    0x3_7_00_00,
+    0x3_9_00_00,
+    0x3_9_00_00,
+    0x3_D_00_00,
     0x3_2_C0_00,
     0x3_2_C1_00,
     // Write to 40h, length 0: S40, ACK gives P.
@@ -123,7 +132,7 @@ const SHEET: [u32; 105] = [
     0x4_1_C4_00,
     0x4_1_C3_40,
     0x4_1_C0_40,
-    0x4_3_00_00,
+    0x4_9_00_00,
     0x4_2_00_00,
     0x4_2_C8_00,
     // Read length 0, then write 42h length 0: first action S42, STATUS 0 is 02h.
@@ -142,9 +151,9 @@ const SHEET: [u32; 105] = [
     0x6_1_C4_02,
     0x6_1_C3_41,
     0x6_1_C0_40,
-    0x6_3_00_00,
-    0x6_5_A1_00,
-    0x6_5_B2_00,
+    0x6_9_00_00,
+    0x6_A_A1_00,
+    0x6_A_B2_00,
     0x6_2_00_00,
     0x6_2_C8_00,
     0x6_2_C5_00,
@@ -157,9 +166,9 @@ const SHEET: [u32; 105] = [
     0x7_1_C0_40,
     0x7_1_C0_20,
     0x7_2_C0_00,
-    0x7_3_00_00,
-    0x7_5_A1_00,
-    0x7_7_00_00,
+    0x7_9_00_00,
+    0x7_A_A1_00,
+    0x7_D_00_00,
     0x7_2_C8_00,
     0x7_2_00_00,
     0x7_2_C1_00,
@@ -171,12 +180,12 @@ const SHEET: [u32; 105] = [
     0x8_1_C4_00,
     0x8_1_C3_40,
     0x8_1_C0_40,
-    0x8_3_00_00,
-    0x8_7_00_00,
+    0x8_9_00_00,
+    0x8_D_00_00,
     0x8_2_C0_00,
-    0x8_6_00_00,
-    0x8_3_00_00,
-    0x8_7_00_00,
+    0x8_C_00_00,
+    0x8_9_00_00,
+    0x8_D_00_00,
     0x8_2_C0_00,
     0x8_2_C1_00,
     0x8_2_C1_00,
@@ -188,8 +197,8 @@ const SHEET: [u32; 105] = [
     0x9_1_C3_40,
     0x9_1_C3_42,
     0x9_1_C0_40,
-    0x9_4_00_00,
-    0x9_7_00_00,
+    0x9_B_00_00,
+    0x9_D_00_00,
     0x9_2_00_00,
     0x9_2_01_00,
     0x9_2_C0_00,
@@ -205,26 +214,14 @@ const SHEET: [u32; 105] = [
     0x9_1_C5_7E,
     0x9_1_C5_7F,
     0x9_1_C0_40,
-    0x9_4_00_00,
-    0x9_3_00_00,
-    0x9_3_00_00,
-    0x9_7_00_00,
+    0x9_B_00_00,
+    0x9_9_00_00,
+    0x9_9_00_00,
+    0x9_D_00_00,
     0x9_2_00_00,
     0x9_2_01_00,
     0x9_2_C1_00,
 ];
-
-fn op_of(kind: u32, a: u8, v: u8) -> Op {
-    match kind {
-        1 => Op::Write(a, v),
-        2 => Op::Read(a),
-        3 => Op::Wire(Event::Ack),
-        4 => Op::Wire(Event::Nack),
-        5 => Op::Wire(Event::Byte(a)),
-        6 => Op::Wire(Event::Tick),
-        _ => Op::Wire(Event::Stop),
-    }
-}
 
 // One step, printed.
 fn step(c: Channel, mem: &mut [u8], line: u32, op: Op) -> Channel {
@@ -238,17 +235,35 @@ fn step(c: Channel, mem: &mut [u8], line: u32, op: Op) -> Channel {
     r.channel
 }
 
+fn fresh(mem: &mut [u8; BUFFER]) -> Channel {
+    *mem = [0u8; BUFFER];
+    Channel::new()
+}
+
+fn no_event(c: Channel) -> Channel {
+    say(b"a row that is no event's\n");
+    c
+}
+
+fn hear(c: Channel, mem: &mut [u8], line: u32, d: Decoded) -> Channel {
+    match d {
+        Decoded::Known(e) => step(c, mem, line, Op::Wire(e)),
+        Decoded::NoEvent => no_event(c),
+    }
+}
+
 // One row of the sheet.
 fn row(c: Channel, mem: &mut [u8; BUFFER], r: u32) -> Channel {
     let line = r / 0x100000;
-    let kind = r / 0x10000 % 16;
-    if kind == 0 {
-        *mem = [0u8; BUFFER];
-        return Channel::new();
-    }
+    let kind = (r / 0x10000 % 16) as u8;
     let a = (r / 256 % 256) as u8;
     let v = (r % 256) as u8;
-    step(c, mem, line, op_of(kind, a, v))
+    match kind {
+        0 => fresh(mem),
+        1 => step(c, mem, line, Op::Write(a, v)),
+        2 => step(c, mem, line, Op::Read(a)),
+        _ => hear(c, mem, line, rules::event_of(kind, a)),
+    }
 }
 
 fn main() {

@@ -9,7 +9,8 @@ use lib.ListN.{getD}
 use Rattle.laws.specs.Pick.{if_then_else_}
 use Rattle.rules.specs.Tables.{startOf, readsOf, firstSent}
 use Rattle.rules.specs.declared.wires.Event.{Event}
-use Rattle.rules.specs.declared.wires.Event.the-variants.{Ack, Byte, Nack, Tick, Stop, Sda, Scl, Ill}
+use Rattle.rules.specs.declared.wires.Event.the-variants.{Ninth, Byte, Tick, Stop, Sda, Scl, Ill}
+use Rattle.rules.specs.declared.wires.Level.the-variants.{Low, High}
 use Rattle.rules.specs.declared.wires.Action.{Action}
 use Rattle.rules.specs.declared.wires.Action.the-variants.{Nothing, S, R, D, C, A, Np, Nr, P}
 
@@ -28,9 +29,8 @@ pub record Entry : Type 0 where
 -- the ACK, NACK, BYTE and STOP events; TICK does not count
 abbrev pub costOf : Heard → ℕ
 costOf none = 0
-costOf (event Ack) = 1
+costOf (event (Ninth l)) = 1
 costOf (event (Byte b)) = 1
-costOf (event Nack) = 1
 costOf (event Tick) = 0
 costOf (event Stop) = 1
 costOf (event Sda) = 0
@@ -40,9 +40,8 @@ costOf (event Ill) = 0
 -- SDA, SCL and ILL
 abbrev pub faultOf : Heard → ℕ
 faultOf none = 0
-faultOf (event Ack) = 0
+faultOf (event (Ninth l)) = 0
 faultOf (event (Byte b)) = 0
-faultOf (event Nack) = 0
 faultOf (event Tick) = 0
 faultOf (event Stop) = 0
 faultOf (event Sda) = 1
@@ -60,9 +59,8 @@ faults (x ∷ l) = faultOf (x .heard) + faults l
 -- a frame is over when STOP, SDA, SCL or ILL is heard
 abbrev pub endsOf : Heard → Bool
 endsOf none = false
-endsOf (event Ack) = false
+endsOf (event (Ninth l)) = false
 endsOf (event (Byte b)) = false
-endsOf (event Nack) = false
 endsOf (event Tick) = false
 endsOf (event Stop) = true
 endsOf (event Sda) = true
@@ -96,9 +94,9 @@ watchAfter sla lens w P = still w
 -- ---- a data byte acknowledged (an ACK where one was sent last) or received
 abbrev pub dataHeard : Watch → Heard → Bool
 dataHeard w none = false
-dataHeard w (event Ack) = w .out
+dataHeard w (event (Ninth Low)) = w .out
+dataHeard w (event (Ninth High)) = false
 dataHeard w (event (Byte b)) = true
-dataHeard w (event Nack) = false
 dataHeard w (event Tick) = false
 dataHeard w (event Stop) = false
 dataHeard w (event Sda) = false

@@ -9,12 +9,16 @@ use Rattle.rules.specs.declared.registers.Place.{Place}
 use Rattle.rules.specs.declared.registers.Register.{Register}
 use Rattle.rules.specs.declared.state.Flags.{Flags}
 use Rattle.rules.specs.declared.access.Spot.{Spot}
+use Rattle.rules.specs.declared.tags.Tag.{Tag}
+use Rattle.rules.specs.declared.tags.Decoded.{Decoded}
 use Rattle.rules.specs.declared.state.Phase.{Phase}
+use Rattle.rules.specs.declared.wires.Action.{Action}
 use Rattle.rules.specs.Access.{busyRefusal, pastRefusal, placeRefusal, slaRefusal, confRefusal, spotOf, spotRefusal, dataRefusal, selRefusal}
 use Rattle.rules.specs.Access.{keptIf, rewound, pointedAt, overrunOf, presetOf, keyAfter, resetsOf}
 use Rattle.rules.specs.Facts.{InBuffer, KnownPlace}
 use Rattle.rules.specs.Registers.{placeOf, activeOf, bitOf, commandOf, weigh, controlValue, chstatusValue, maskKept}
 use Rattle.rules.specs.Tables.{startOf, fitting, readsOf, skippedOf, firstSent, marked}
+use Rattle.rules.specs.Tags.{tag, actionTag, eventOf}
 use Rattle.promises.specs.Promise.{Once, no-second}
 
 -- ---- access.rt
@@ -115,3 +119,10 @@ mark-once status from to = no-second (λ r h. h)
 
 pub wipe-once : (mem : List ℕ) → Once (List ℕ) (λ mem′. mem′ ≡ replicate (length mem) 0)
 wipe-once mem = no-second (λ r h. h)
+
+-- ---- tags.rt
+pub action-tag-once : (a : Action) → Once Tag (λ r. r ≡ actionTag a)
+action-tag-once a = no-second (λ r h. h)
+
+pub event-of-once : (kind value : ℕ) → Once Decoded (λ r. r ≡ eventOf (tag kind value))
+event-of-once kind value = no-second (λ r h. h)

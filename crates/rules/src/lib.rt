@@ -1,9 +1,10 @@
-// The rules of document 01 that need no record of a channel: its enums and parts, and the decisions and loops on registers and tables.
+// The rules of document 01 that need no record of a channel: its enums and parts, and the decisions and loops on registers and tables; and document 02's numbers of actions and events.
 mod access;
 mod numbers;
 mod registers;
 mod state;
 mod tables;
+mod tags;
 mod wires;
 
 pub use access::Spot;
@@ -69,6 +70,11 @@ pub use tables::reads;
 pub use tables::skipped;
 pub use tables::start_of;
 pub use tables::wipe;
+pub use tags::Decoded;
+pub use tags::Tag;
+pub use tags::action_tag;
+pub use tags::event_of;
 pub use wires::Action;
 pub use wires::Edge;
 pub use wires::Event;
+pub use wires::Level;

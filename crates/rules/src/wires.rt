@@ -13,11 +13,16 @@ pub enum Action {
     P,
 }
 
-// What the wires did, or the bench's clock.
+// What was seen of SDA at the ninth clock of a byte: low, acknowledged; high, not.
+pub enum Level {
+    Low,
+    High,
+}
+
+// What the wires did, or the bench's clock. ACK and NACK are one event, the ninth clock with the level seen.
 pub enum Event {
-    Ack,
+    Ninth(Level),
     Byte(u8),
-    Nack,
     Tick,
     Stop,
     Sda,

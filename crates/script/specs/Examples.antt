@@ -1,9 +1,10 @@
--- Lines of document 01's own example, and lines that can't be read, computed by the definitions.
+-- Lines that can be read and lines that can't, computed by the definitions.
 use mathlib.Core.List.{[]}
 use mathlib.Core.Path.{_≡_, refl}
 use Rattle.laws.specs.Pick.{if_then_else_}
 use Rattle.laws.specs.Ascii.{ascii}
-use Rattle.rules.specs.declared.wires.Event.the-variants.{Byte, Stop}
+use Rattle.rules.specs.declared.wires.Event.the-variants.{Ninth, Byte, Stop}
+use Rattle.rules.specs.declared.wires.Level.the-variants.{Low, High}
 use Rattle.steps.specs.declared.map.Step.the-variants.{Write, Wire}
 use Rattle.script.specs.Grammar.{isHex, hexOf, suiting, inForm, faultLine, clockLine, eventLine, edgeLine, lineOf}
 use Rattle.script.specs.declared.reading.Line.the-variants.{Readable, Unreadable}
@@ -12,6 +13,14 @@ read-write : lineOf (ascii "W C5 7E") ≡ Readable (Write 0xC5 0x7E)
 unfolding lineOf inForm suiting isHex hexOf if_then_else_
 read-write = refl
 
+read-ack : lineOf (ascii "E 0 ACK") ≡ Readable (Wire 0 (Ninth Low))
+unfolding lineOf edgeLine eventLine inForm suiting isHex hexOf if_then_else_
+read-ack = refl
+
+read-nack : lineOf (ascii "E 0 NACK") ≡ Readable (Wire 0 (Ninth High))
+unfolding lineOf edgeLine eventLine inForm suiting isHex hexOf if_then_else_
+read-nack = refl
+
 read-stop : lineOf (ascii "E 0 STOP") ≡ Readable (Wire 0 Stop)
 unfolding lineOf edgeLine eventLine clockLine inForm suiting isHex hexOf if_then_else_
 read-stop = refl
@@ -19,6 +28,10 @@ read-stop = refl
 read-byte : lineOf (ascii "E F BYTE 0A") ≡ Readable (Wire 15 (Byte 10))
 unfolding lineOf edgeLine eventLine inForm suiting isHex hexOf if_then_else_
 read-byte = refl
+
+no-new-word : lineOf (ascii "E 0 NINTH") ≡ Unreadable
+unfolding lineOf edgeLine eventLine clockLine faultLine inForm suiting isHex if_then_else_
+no-new-word = refl
 
 lower-case : lineOf (ascii "W c5 7E") ≡ Unreadable
 unfolding lineOf edgeLine eventLine clockLine faultLine inForm suiting isHex if_then_else_

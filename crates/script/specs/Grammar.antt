@@ -8,7 +8,8 @@ use Rattle.laws.specs.Pick.{if_then_else_}
 use Rattle.laws.specs.Ascii.{ascii}
 use Rattle.rules.specs.declared.wires.Edge.the-variants.{Rising, Falling}
 use Rattle.rules.specs.declared.wires.Event.{Event}
-use Rattle.rules.specs.declared.wires.Event.the-variants.{Ack, Nack, Byte, Tick, Stop, Sda, Scl, Ill}
+use Rattle.rules.specs.declared.wires.Event.the-variants.{Ninth, Byte, Tick, Stop, Sda, Scl, Ill}
+use Rattle.rules.specs.declared.wires.Level.the-variants.{Low, High}
 use Rattle.steps.specs.declared.map.Step.the-variants.{Write, Read, Wire, Trigger, Reset}
 use Rattle.script.specs.declared.reading.Line.{Line}
 use Rattle.script.specs.declared.reading.Line.the-variants.{Readable, Unreadable}
@@ -64,11 +65,11 @@ clockLine l =
     else if inForm (ascii "E c STOP") l then wireLine l Stop
     else faultLine l
 
--- `E c ACK`, `E c NACK`, `E c BYTE bb`
+-- `E c ACK`, `E c NACK`, `E c BYTE bb`. Both words become the one event that carries the level, low meaning acknowledged
 unfoldable pub eventLine : List ℕ → Line
 eventLine l =
-    if inForm (ascii "E c ACK") l then wireLine l Ack
-    else if inForm (ascii "E c NACK") l then wireLine l Nack
+    if inForm (ascii "E c ACK") l then wireLine l (Ninth Low)
+    else if inForm (ascii "E c NACK") l then wireLine l (Ninth High)
     else if inForm (ascii "E c BYTE bb") l then wireLine l (Byte (byteAt l 9))
     else clockLine l
 

@@ -4,6 +4,7 @@ ghost use Prim.Native.Nat.{_<_};
 ghost use Rattle.script.specs.Grammar.{lineRoom, isHex, hexOf, digitAt, byteAt, suiting, inForm, wireLine, lineOf, edgeLine, eventLine, clockLine, faultLine};
 use rules::Edge;
 use rules::Event;
+use rules::Level;
 use steps::Step;
 
 // A line of so many bytes, or more, can't be read: every form is shorter (`lineRoom`).
@@ -120,10 +121,10 @@ fn read_event(line: &[u8]) -> Line
     ensures { λ r. ⌜ r ≡ eventLine (now (line .entry)) ⌝ }
 {
     if in_form(b"E c ACK", line) {
-        return wire(line, Event::Ack);
+        return wire(line, Event::Ninth(Level::Low));
     }
     if in_form(b"E c NACK", line) {
-        return wire(line, Event::Nack);
+        return wire(line, Event::Ninth(Level::High));
     }
     if in_form(b"E c BYTE bb", line) {
         return byte_event(line);

@@ -9,7 +9,9 @@ use Rattle.rules.specs.declared.state.Phase.{Phase}
 use Rattle.rules.specs.declared.state.Phase.the-variants.{Idle, Address, Sending, Receiving, Stopping, Waiting}
 use Rattle.rules.specs.declared.registers.Command.{Command}
 use Rattle.rules.specs.declared.wires.Event.{Event}
-use Rattle.rules.specs.declared.wires.Event.the-variants.{Ack, Byte, Nack, Tick, Stop, Sda, Scl, Ill}
+use Rattle.rules.specs.declared.wires.Event.the-variants.{Ninth, Byte, Tick, Stop, Sda, Scl, Ill}
+use Rattle.rules.specs.declared.wires.Level.{Level}
+use Rattle.rules.specs.declared.wires.Level.the-variants.{Low, High}
 use Rattle.rules.specs.declared.wires.Edge.{Edge}
 use Rattle.rules.specs.declared.wires.Edge.the-variants.{Rising, Falling}
 use Rattle.rules.specs.declared.wires.Action.{Action}
@@ -101,6 +103,11 @@ nackTurn (Receiving n) = Unawaited
 nackTurn Stopping = Unawaited
 nackTurn Waiting = Unawaited
 
+-- request Six: one event that carries the level seen, low meaning acknowledged
+abbrev pub ninthTurn : Phase → Level → Turn
+ninthTurn p Low = ackTurn p
+ninthTurn p High = nackTurn p
+
 -- WE for a write, RE for a read: masked by INTMSK or not
 unfoldable pub maskedOf : ℕ → Bool → Bool
 maskedOf intmsk read = if read then bitOf intmsk remsk else bitOf intmsk wemsk
@@ -182,9 +189,8 @@ sclTurn Waiting = Faulty Cle
 
 -- ILL (any phase) SSE. What each event comes to
 unfoldable pub turnOf : Phase → Bool → ℕ → Event → Turn
-turnOf p te framecnt Ack = ackTurn p
+turnOf p te framecnt (Ninth l) = ninthTurn p l
 turnOf p te framecnt (Byte b) = byteTurn p b
-turnOf p te framecnt Nack = nackTurn p
 turnOf p te framecnt Tick = tickTurn p te framecnt
 turnOf p te framecnt Stop = stopTurn p
 turnOf p te framecnt Sda = sdaTurn p

@@ -3,13 +3,14 @@ ghost use mathlib.Core.Path.{_≡_};
 ghost use Prim.Native.Nat.{_+_, _<_, _≤_};
 ghost use lib.ListN.{getD};
 ghost use Rattle.sequence.specs.Wires.{stopAsked, startAsked, leaveAsked, askedIn, askOf, beginningOf, againBy};
-ghost use Rattle.sequence.specs.Wires.{ackTurn, byteTurn, nackTurn, maskedOf, haltedOf, nextOf, reachOf, moveOf, stopBy};
+ghost use Rattle.sequence.specs.Wires.{ackTurn, byteTurn, nackTurn, ninthTurn, maskedOf, haltedOf, nextOf, reachOf, moveOf, stopBy};
 ghost use Rattle.sequence.specs.Wires.{tickingOf, beatOf, beatTurn, tickTurn, stopTurn, sdaTurn, sclTurn, turnOf, endingOf, restOf, fldAfter, matchesOf, edgeBeat};
 ghost use Rattle.sequence.specs.Facts.{Ready, Exists};
 use rules::Action;
 use rules::Command;
 use rules::Edge;
 use rules::Event;
+use rules::Level;
 use rules::Phase;
 use rules::REMSK;
 use rules::WEMSK;
@@ -207,6 +208,15 @@ fn nack_turn(p: Phase) -> Turn
     }
 }
 
+fn ninth_turn(p: Phase, l: Level) -> Turn
+    ensures { λ r. ⌜ r ≡ ninthTurn p l ⌝ }
+{
+    match l {
+        Level::Low => ack_turn(p),
+        Level::High => nack_turn(p),
+    }
+}
+
 // Whether WE, or RE of a read, is masked.
 pub fn masked(intmsk: u8, read: bool) -> bool
     ensures { λ r. ⌜ r ≡ maskedOf intmsk read ⌝ }
@@ -358,9 +368,8 @@ pub fn turn_of(p: Phase, te: bool, framecnt: u8, e: Event) -> Turn
     ensures { λ r. ⌜ r ≡ turnOf p te framecnt e ⌝ }
 {
     match e {
-        Event::Ack => ack_turn(p),
+        Event::Ninth(l) => ninth_turn(p, l),
         Event::Byte(b) => byte_turn(p, b),
-        Event::Nack => nack_turn(p),
         Event::Tick => tick_turn(p, te, framecnt),
         Event::Stop => stop_turn(p),
         Event::Sda => sda_turn(p),

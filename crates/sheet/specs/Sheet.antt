@@ -4,7 +4,8 @@ use mathlib.Core.Path.{refl}
 use lib.ListN.{replicate}
 use Rattle.laws.specs.Lists.{All}
 use Rattle.rules.specs.declared.wires.Action.the-variants.{S, R, C, A, Np, P}
-use Rattle.rules.specs.declared.wires.Event.the-variants.{Ack, Nack, Byte, Tick, Stop}
+use Rattle.rules.specs.declared.wires.Event.the-variants.{Ninth, Byte, Tick, Stop}
+use Rattle.rules.specs.declared.wires.Level.the-variants.{Low, High}
 use Rattle.steps.specs.declared.map.Step.the-variants.{Write, Wire, Reset}
 use Rattle.sheet.specs.Model.{thePart}
 use Rattle.sheet.specs.Run.{Entry, points, Row, Holds, fromReset, does, acts, refuses, writes, reads}
@@ -23,7 +24,7 @@ row3 = fromReset (writes 0xC4 1 ∷ writes 0xC4 1 ∷ writes 0xC3 0x40 ∷ acts 
 
 -- 4. Write to 40h, length 0: S40, ACK gives P.
 abbrev row4 : Row
-row4 = fromReset (writes 0xC4 1 ∷ writes 0xC4 0 ∷ writes 0xC3 0x40 ∷ acts (Write 0xC0 0x40) (S 0x40) ∷ acts (Wire 0 Ack) P ∷ [])
+row4 = fromReset (writes 0xC4 1 ∷ writes 0xC4 0 ∷ writes 0xC3 0x40 ∷ acts (Write 0xC0 0x40) (S 0x40) ∷ acts (Wire 0 (Ninth Low)) P ∷ [])
 
 -- 5. Read length 0, then write 42h length 0: first action S42, STATUS 0 is 02h.
 abbrev row5 : Row
@@ -41,7 +42,7 @@ row6 =
     fromReset
     (writes 0xC4 1 ∷ writes 0xC4 2 ∷ writes 0xC3 0x41
     ∷ acts (Write 0xC0 0x40) (S 0x41)
-    ∷ acts (Wire 0 Ack) C
+    ∷ acts (Wire 0 (Ninth Low)) C
     ∷ acts (Wire 0 (Byte 0xB1)) A
     ∷ acts (Wire 0 (Byte 0xB2)) Np
     ∷ reads 0xC5 0xB1 ∷ reads 0xC5 0xB2
@@ -54,7 +55,7 @@ row7 =
     (writes 0xC4 1 ∷ writes 0xC4 2 ∷ writes 0xC3 0x41
     ∷ acts (Write 0xC0 0x40) (S 0x41)
     ∷ writes 0xC0 0x20
-    ∷ acts (Wire 0 Ack) C
+    ∷ acts (Wire 0 (Ninth Low)) C
     ∷ acts (Wire 0 (Byte 0xB1)) Np
     ∷ does (Wire 0 Stop)
     ∷ reads 0xC8 1 ∷ reads 0x00 0x01 ∷ reads 0xC1 0x80
@@ -65,8 +66,8 @@ abbrev row8 : Row
 row8 =
     fromReset
     (writes 0xC9 2 ∷ writes 0xC4 1 ∷ writes 0xC4 0 ∷ writes 0xC3 0x40
-    ∷ acts (Write 0xC0 0x40) (S 0x40) ∷ acts (Wire 0 Ack) P ∷ does (Wire 0 Stop)
-    ∷ acts (Wire 0 Tick) (S 0x40) ∷ acts (Wire 0 Ack) P ∷ does (Wire 0 Stop)
+    ∷ acts (Write 0xC0 0x40) (S 0x40) ∷ acts (Wire 0 (Ninth Low)) P ∷ does (Wire 0 Stop)
+    ∷ acts (Wire 0 Tick) (S 0x40) ∷ acts (Wire 0 (Ninth Low)) P ∷ does (Wire 0 Stop)
     ∷ reads 0xC1 0xC0
     ∷ [])
 
@@ -79,10 +80,10 @@ abbrev row9 : Row
 row9 =
     fromReset
     (two-writes
-    ++ (acts (Wire 0 Nack) P ∷ does (Wire 0 Stop) ∷ reads 0xC1 0x20
+    ++ (acts (Wire 0 (Ninth High)) P ∷ does (Wire 0 Stop) ∷ reads 0xC1 0x20
     ∷ does Reset ∷ writes 0xC2 0x20
     ∷ two-writes
-    ++ (acts (Wire 0 Nack) (R 0x42) ∷ [])))
+    ++ (acts (Wire 0 (Ninth High)) (R 0x42) ∷ [])))
 
 -- 10. Seventeen lengths of 255: TRANSEL 17 points at 4,335; TRANOFS 16 at 4,351; TRANOFS 17 no. 5.
 abbrev row10 : Row

@@ -6,7 +6,8 @@ use native.Mathlib.Omega.{arith}
 use Rattle.laws.specs.Pick.{if_then_else_}
 use Rattle.bounds.specs.Range.{pointersIn, registersIn, countingOf, endedIn, blankOf, recordedIn, walkIn, standing, countedIn, clearFrom, countsIn, frameAt, frameIn}
 use Rattle.rules.specs.Tables.{startOf, fitting, skippedOf, sentFrom}
-use Rattle.rules.specs.declared.wires.Event.the-variants.{Ack, Byte, Stop}
+use Rattle.rules.specs.declared.wires.Event.the-variants.{Ninth, Byte, Stop}
+use Rattle.rules.specs.declared.wires.Level.the-variants.{Low}
 use Rattle.steps.specs.declared.map.Step.{Step}
 use Rattle.steps.specs.declared.map.Step.the-variants.{Write, Wire}
 use Rattle.steps.specs.declared.answer.PartAnswer.{PartAnswer}
@@ -31,7 +32,7 @@ abbrev opened : Model → State
 opened model = ends (machine model) (record { part = freshPart; memory = wiped }) (Write 0xC4 1 ∷ Write 0xC4 2 ∷ Write 0xC3 0x41 ∷ Write 0xC0 0x40 ∷ [])
 
 abbrev frame : Model → List Step
-frame model = frameOf (machine model) targetOf 0 (opened model) (Wire 0 Ack ∷ Wire 0 (Byte 0xB1) ∷ Wire 0 (Byte 0xB2) ∷ Wire 0 Stop ∷ [])
+frame model = frameOf (machine model) targetOf 0 (opened model) (Wire 0 (Ninth Low) ∷ Wire 0 (Byte 0xB1) ∷ Wire 0 (Byte 0xB2) ∷ Wire 0 Stop ∷ [])
 
 -- it is a frame that has just begun
 pub has-begun : Begun 0 (opened thePart)

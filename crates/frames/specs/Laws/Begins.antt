@@ -12,7 +12,8 @@ use Rattle.rules.specs.declared.state.Phase.{Phase}
 use Rattle.rules.specs.declared.state.Phase.the-variants.{Idle, Address, Sending, Receiving, Stopping, Waiting}
 use Rattle.rules.specs.Tables.{readsOf}
 use Rattle.rules.specs.declared.wires.Event.{Event}
-use Rattle.rules.specs.declared.wires.Event.the-variants.{Ack, Byte, Stop}
+use Rattle.rules.specs.declared.wires.Event.the-variants.{Ninth, Byte, Stop}
+use Rattle.rules.specs.declared.wires.Level.the-variants.{Low}
 use Rattle.sequence.specs.declared.wires.Next.{Next}
 use Rattle.sequence.specs.declared.wires.Next.the-variants.{Cut, More, Over}
 use Rattle.sequence.specs.declared.wires.Tail.the-variants.{Plain, Nacked}
@@ -65,8 +66,8 @@ receives c n Over = finished-behind c n Nacked .done
 -- the event that phase p awaits
 awaited : Phase → Event
 awaited Idle = Stop
-awaited (Address n) = Ack
-awaited (Sending n) = Ack
+awaited (Address n) = Ninth Low
+awaited (Sending n) = Ninth Low
 awaited (Receiving n) = Byte 0
 awaited Stopping = Stop
 awaited Waiting = Stop

@@ -18,7 +18,8 @@ use Rattle.rules.specs.Laws.Tables.{start-next, start-more}
 use Rattle.bounds.specs.Laws.Range.{stands-of}
 use Rattle.rules.specs.declared.wires.Action.the-variants.{D, A}
 use Rattle.rules.specs.declared.wires.Event.{Event}
-use Rattle.rules.specs.declared.wires.Event.the-variants.{Ack, Byte, Nack}
+use Rattle.rules.specs.declared.wires.Event.the-variants.{Ninth, Byte}
+use Rattle.rules.specs.declared.wires.Level.the-variants.{Low, High}
 use Rattle.sequence.specs.declared.wires.Next.{Next}
 use Rattle.sequence.specs.declared.wires.Next.the-variants.{Cut, More, Over}
 use Rattle.sequence.specs.declared.wires.Tail.{Tail}
@@ -123,7 +124,7 @@ module _ (c : Channel) (m : List ℕ) (n : ℕ) (a : At c n) (w : Watch) where
   }
 
   -- ---- ACK in Address
-  clocked-goes : bytesOf c n ≡ 0 → Watching (Address n) (c .bytecount) w → Goes (Address n) c m w (event Ack) (leaving m (on c (clocked (c .head) n)))
+  clocked-goes : bytesOf c n ≡ 0 → Watching (Address n) (c .bytecount) w → Goes (Address n) c m w (event (Ninth Low)) (leaving m (on c (clocked (c .head) n)))
   unfolding clocked
   clocked-goes z v = record {
     slas = refl;
@@ -131,7 +132,7 @@ module _ (c : Channel) (m : List ℕ) (n : ℕ) (a : At c n) (w : Watch) where
     width = refl;
     left = let x = a .below in let y = a .room in omega (arith, x, y, z);
     watch = (v .0, v .1, refl);
-    counts = none-counted w (event Ack) (c .bytecount) (v .2);
+    counts = none-counted w (event (Ninth Low)) (c .bytecount) (v .2);
     paced = λ h e. let y = h e in (omega (arith, y .0), omega (arith, y .1));
     moment = tt;
     kept = λ k j _ _ _. refl;
@@ -140,7 +141,7 @@ module _ (c : Channel) (m : List ℕ) (n : ℕ) (a : At c n) (w : Watch) where
   }
 
   -- the first byte of a write
-  first-goes : readsOf (slaveOf c n) ≡ false → bytesOf c n ≡ 0 → 0 < lengthOf c n → Watching (Address n) (c .bytecount) w → Goes (Address n) c m w (event Ack) (leaving m (byteSent c m n 0))
+  first-goes : readsOf (slaveOf c n) ≡ false → bytesOf c n ≡ 0 → 0 < lengthOf c n → Watching (Address n) (c .bytecount) w → Goes (Address n) c m w (event (Ninth Low)) (leaving m (byteSent c m n 0))
   unfolding byteSent
   first-goes d z p v = record {
     slas = refl;
@@ -148,7 +149,7 @@ module _ (c : Channel) (m : List ℕ) (n : ℕ) (a : At c n) (w : Watch) where
     width = refl;
     left = let x = a .below in let y = a .room in omega (arith, x, y, z);
     watch = (v .0, rw (v .1, z) refl, refl);
-    counts = none-counted w (event Ack) (c .bytecount) (v .2);
+    counts = none-counted w (event (Ninth Low)) (c .bytecount) (v .2);
     paced = λ h e. let g = data-gain (getD m (startOf (c .tranconfig) n + 0) 0) in rw (v .0, v .1, z) (omega arith, omega (arith, g));
     moment = rw (v .0, v .1) (d, p, refl);
     kept = λ k j _ _ _. refl;
@@ -157,22 +158,22 @@ module _ (c : Channel) (m : List ℕ) (n : ℕ) (a : At c n) (w : Watch) where
   }
 
   send-first : (x : Next) → readsOf (slaveOf c n) ≡ false → Left x 0 (lengthOf c n) → bytesOf c n ≡ 0 → Watching (Address n) (c .bytecount) w
-      → Goes (Address n) c m w (event Ack) (leaving m (sendOn c m n 0 x))
+      → Goes (Address n) c m w (event (Ninth Low)) (leaving m (sendOn c m n 0 x))
   unfolding sendOn
-  send-first Cut d l z v = behind-goes (Address n) Ack _ (stop-behind c n Plain) (v .0) (v .2) refl (let x = a .below in let y = a .room in let e = a .next in omega (arith, x, y, e))
+  send-first Cut d l z v = behind-goes (Address n) (Ninth Low) _ (stop-behind c n Plain) (v .0) (v .2) refl (let x = a .below in let y = a .room in let e = a .next in omega (arith, x, y, e))
   send-first More d l z v = first-goes d z l v
-  send-first Over d l z v = behind-goes (Address n) Ack _ (finished-behind c n Plain) (v .0) (v .2) refl (let x = a .below in let y = a .room in let e = a .next in omega (arith, x, y, e))
+  send-first Over d l z v = behind-goes (Address n) (Ninth Low) _ (finished-behind c n Plain) (v .0) (v .2) refl (let x = a .below in let y = a .room in let e = a .next in omega (arith, x, y, e))
 
-  pub ack-address-goes : bytesOf c n ≡ 0 → Watching (Address n) (c .bytecount) w → Goes (Address n) c m w (event Ack) (leaving m (ackAddress c m n))
+  pub ack-address-goes : bytesOf c n ≡ 0 → Watching (Address n) (c .bytecount) w → Goes (Address n) c m w (event (Ninth Low)) (leaving m (ackAddress c m n))
   unfolding ackAddress
   ack-address-goes z v =
-      pick-holds (λ r. Goes (Address n) c m w (event Ack) (leaving m r)) (readsOf (slaveOf c n))
+      pick-holds (λ r. Goes (Address n) c m w (event (Ninth Low)) (leaving m r)) (readsOf (slaveOf c n))
       (λ _. clocked-goes z v)
       (λ d. send-first _ d (next-left (haltOf (c .head)) 0 (lengthOf c n)) z v)
 
   -- ---- NACK
   failed-goes : (p : Phase) (d : Channel) → d .slatable ≡ c .slatable → d .tranconfig ≡ c .tranconfig → d .bytecount ≡ c .bytecount
-      → 2 ≤ leftOf p (c .tranconfig) (c .bytecount) → Goes p c m w (event Nack) (leaving m (on d (failed (d .head))))
+      → 2 ≤ leftOf p (c .tranconfig) (c .bytecount) → Goes p c m w (event (Ninth High)) (leaving m (on d (failed (d .head))))
   unfolding failed
   failed-goes p d s l k g = record {
     slas = s;
@@ -180,7 +181,7 @@ module _ (c : Channel) (m : List ℕ) (n : ℕ) (a : At c n) (w : Watch) where
     width = ap length k;
     left = omega (arith, g);
     watch = tt;
-    counts = λ i. rw k (none-counted w (event Nack) (c .bytecount) refl i);
+    counts = λ i. rw k (none-counted w (event (Ninth High)) (c .bytecount) refl i);
     paced = λ h e. let y = h e in rw k (omega (arith, y .0), omega (arith, y .1));
     moment = tt;
     kept = λ i j _ _ _. refl;
@@ -188,12 +189,12 @@ module _ (c : Channel) (m : List ℕ) (n : ℕ) (a : At c n) (w : Watch) where
     done = refl;
   }
 
-  pub nacked-goes : (p : Phase) (v : ℕ) → w .at ≡ n → leftBehind (c .tranconfig) n + 1 ≤ leftOf p (c .tranconfig) (c .bytecount) → Goes p c m w (event Nack) (leaving m (nacked c n v))
+  pub nacked-goes : (p : Phase) (v : ℕ) → w .at ≡ n → leftBehind (c .tranconfig) n + 1 ≤ leftOf p (c .tranconfig) (c .bytecount) → Goes p c m w (event (Ninth High)) (leaving m (nacked c n v))
   unfolding nacked failedBy
   nacked-goes p v q l =
       let d = withHead (resolved c n v) (noted (c .head) (readsOf (slaveOf c n))) in
-      pick-holds (λ r. Goes p c m w (event Nack) (leaving m r)) _
-      (λ _. behind-goes p Nack _ (onward-behind d n Plain) q refl refl (omega (arith, l)))
+      pick-holds (λ r. Goes p c m w (event (Ninth High)) (leaving m r)) _
+      (λ _. behind-goes p (Ninth High) _ (onward-behind d n Plain) q refl refl (omega (arith, l)))
       (λ _. failed-goes p d refl refl refl (omega (arith, l)))
 
 -- ---- ACK in Sending and BYTE in Receiving: one byte more is counted
@@ -231,7 +232,7 @@ module _ (c : Channel) (m : List ℕ) (n : ℕ) (a : At c n) (w : Watch) (wide :
 
   -- the next byte of a write
   next-goes : readsOf (slaveOf c n) ≡ false → bytesOf c n + 1 < lengthOf c n → Watching (Sending n) (c .bytecount) w
-      → Goes (Sending n) c m w (event Ack) (leaving m (byteSent (countedOne c n) m n (bytesOf c n + 1)))
+      → Goes (Sending n) c m w (event (Ninth Low)) (leaving m (byteSent (countedOne c n) m n (bytesOf c n + 1)))
   unfolding byteSent countedOne
   next-goes d l v = record {
     slas = refl;
@@ -239,7 +240,7 @@ module _ (c : Channel) (m : List ℕ) (n : ℕ) (a : At c n) (w : Watch) (wide :
     width = length-set (c .bytecount) n _;
     left = let x = a .room in let e = same in omega (arith, x, e, short);
     watch = (v .0, rw (v .1, same) refl, refl);
-    counts = counted (event Ack) (v .2) (v .0);
+    counts = counted (event (Ninth Low)) (v .2) (v .0);
     paced = λ h e. let g = data-gain (getD m (startOf (c .tranconfig) n + (bytesOf c n + 1)) 0) in rw (v .0, v .1, same) (omega (arith, g), omega (arith, g));
     moment = rw (v .0, v .1) (d, l, refl);
     kept = λ k j _ _ _. refl;
@@ -260,13 +261,13 @@ module _ (c : Channel) (m : List ℕ) (n : ℕ) (a : At c n) (w : Watch) (wide :
   left-less = let x = a .room in let e = a .next in omega (arith, x, e, short)
 
   send-more : (x : Next) → readsOf (slaveOf c n) ≡ false → Left x (bytesOf c n + 1) (lengthOf c n) → Watching (Sending n) (c .bytecount) w
-      → Goes (Sending n) c m w (event Ack) (leaving m (sendOn (countedOne c n) m n (bytesOf c n + 1) x))
+      → Goes (Sending n) c m w (event (Ninth Low)) (leaving m (sendOn (countedOne c n) m n (bytesOf c n + 1) x))
   unfolding sendOn countedOne
-  send-more Cut d l v = behind-counted (Sending n) Ack _ m (cut-counted Plain) (v .0) (v .2) refl (sent-paced v) left-less (λ k j _ _ _. refl)
+  send-more Cut d l v = behind-counted (Sending n) (Ninth Low) _ m (cut-counted Plain) (v .0) (v .2) refl (sent-paced v) left-less (λ k j _ _ _. refl)
   send-more More d l v = next-goes d l v
-  send-more Over d l v = behind-counted (Sending n) Ack _ m (ended-counted Plain) (v .0) (v .2) refl (sent-paced v) left-less (λ k j _ _ _. refl)
+  send-more Over d l v = behind-counted (Sending n) (Ninth Low) _ m (ended-counted Plain) (v .0) (v .2) refl (sent-paced v) left-less (λ k j _ _ _. refl)
 
-  pub ack-sending-goes : readsOf (slaveOf c n) ≡ false → Watching (Sending n) (c .bytecount) w → Goes (Sending n) c m w (event Ack) (leaving m (ackSending c m n))
+  pub ack-sending-goes : readsOf (slaveOf c n) ≡ false → Watching (Sending n) (c .bytecount) w → Goes (Sending n) c m w (event (Ninth Low)) (leaving m (ackSending c m n))
   unfolding ackSending
   ack-sending-goes d v = send-more _ d (next-left (haltOf (c .head)) (bytesOf c n + 1) (lengthOf c n)) v
 

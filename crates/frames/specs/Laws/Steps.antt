@@ -33,7 +33,8 @@ use Rattle.rules.specs.declared.wires.Edge.{Edge}
 use Rattle.sequence.specs.declared.wires.Ending.{Ending}
 use Rattle.sequence.specs.declared.wires.Ending.the-variants.{Fe, Error, Sd, Wait}
 use Rattle.rules.specs.declared.wires.Event.{Event}
-use Rattle.rules.specs.declared.wires.Event.the-variants.{Ack, Byte, Nack, Tick, Stop, Sda, Scl, Ill}
+use Rattle.rules.specs.declared.wires.Event.the-variants.{Ninth, Byte, Tick, Stop, Sda, Scl, Ill}
+use Rattle.rules.specs.declared.wires.Level.the-variants.{Low, High}
 use Rattle.sequence.specs.declared.wires.Fault.{Fault}
 use Rattle.sequence.specs.declared.wires.Fault.the-variants.{Dae, Cle, Sse}
 use Rattle.sequence.specs.declared.wires.Turn.{Turn}
@@ -339,8 +340,8 @@ module _ (c : Channel) (m : List ℕ) (w : Watch) where
   met-goes : (p : Phase) (e : Event) (t : Turn) → Meeting p e t → Under c w p → Hears p e (turned c m t)
   unfolding turned frameEnded
   met-goes p e t unawaited′ u = not-awaited p u e
-  met-goes p e t (ack-address′ {n}) u = let a = address-at n u in done (Address n) Ack _ (ack-address-goes c m n (a .0) w (a .1) (u .watching))
-  met-goes p e t (ack-sending′ {n}) u = let a = sending-at n u in done (Sending n) Ack _ (ack-sending-goes c m n (a .0) w (inside n (u .wide) (a .0)) (a .1) (a .2) (u .watching))
+  met-goes p e t (ack-address′ {n}) u = let a = address-at n u in done (Address n) (Ninth Low) _ (ack-address-goes c m n (a .0) w (a .1) (u .watching))
+  met-goes p e t (ack-sending′ {n}) u = let a = sending-at n u in done (Sending n) (Ninth Low) _ (ack-sending-goes c m n (a .0) w (inside n (u .wide) (a .0)) (a .1) (a .2) (u .watching))
   met-goes p e t (receive′ {n} {b}) u =
       let a = receiving-at n u in
       done (Receiving n) (Byte b) _ (received-goes c m n (a .0) w (inside n (u .wide) (a .0)) (a .1) b (u .at) (a .2) (u .watching))
@@ -349,13 +350,13 @@ module _ (c : Channel) (m : List ℕ) (w : Watch) where
       let x = a .0 .below in
       let y = a .0 .room in
       let z = a .0 .next in
-      done (Address n) Nack _ (nacked-goes c m n (a .0) w (Address n) addressRefused (u .watching .0) (omega (arith, x, y, z)))
+      done (Address n) (Ninth High) _ (nacked-goes c m n (a .0) w (Address n) addressRefused (u .watching .0) (omega (arith, x, y, z)))
   met-goes p e t (nack-sending′ {n}) u =
       let a = sending-at n u in
       let x = a .1 in
       let y = a .0 .room in
       let z = a .0 .next in
-      done (Sending n) Nack _ (nacked-goes c m n (a .0) w (Sending n) dataRefused (u .watching .0) (omega (arith, x, y, z)))
+      done (Sending n) (Ninth High) _ (nacked-goes c m n (a .0) w (Sending n) dataRefused (u .watching .0) (omega (arith, x, y, z)))
   met-goes p e t begin′ u = no (u .runs)
   met-goes p e t (late′ q) u = done p Tick _ (stay c m w p u (event Tick) _ (late-stays c m (rw (u .at) (u .runs))) refl refl refl refl)
   met-goes p e t end′ u = done Stopping Stop _ (over c m w Stopping u Stop (withHead c (frameEnded (c .head))) refl refl refl (ended-runs _) refl refl refl)

@@ -7,7 +7,8 @@ use Rattle.rules.specs.declared.state.Phase.{Phase}
 use Rattle.rules.specs.declared.state.Phase.the-variants.{Idle, Address, Sending, Receiving, Stopping, Waiting}
 use Rattle.rules.specs.Registers.{activeOf}
 use Rattle.rules.specs.declared.wires.Event.{Event}
-use Rattle.rules.specs.declared.wires.Event.the-variants.{Ack, Byte, Nack, Tick, Stop, Sda, Scl, Ill}
+use Rattle.rules.specs.declared.wires.Event.the-variants.{Ninth, Byte, Tick, Stop, Sda, Scl, Ill}
+use Rattle.rules.specs.declared.wires.Level.the-variants.{Low, High}
 use Rattle.sequence.specs.declared.wires.Beat.the-variants.{Late as LateBeat}
 use Rattle.sequence.specs.declared.wires.Fault.the-variants.{Dae, Cle, Sse}
 use Rattle.sequence.specs.declared.wires.Turn.{Turn}
@@ -16,11 +17,11 @@ use Rattle.sequence.specs.Wires.{beatOf, beatTurn, tickingOf, tickTurn, 
 
 pub data Meeting : Phase → Event → Turn → Type 0 where
   unawaited : {p : Phase} {e : Event} → Meeting p e Unawaited
-  ack-address : {n : ℕ} → Meeting (Address n) Ack (AckAddress n)
-  ack-sending : {n : ℕ} → Meeting (Sending n) Ack (AckSending n)
+  ack-address : {n : ℕ} → Meeting (Address n) (Ninth Low) (AckAddress n)
+  ack-sending : {n : ℕ} → Meeting (Sending n) (Ninth Low) (AckSending n)
   receive : {n b : ℕ} → Meeting (Receiving n) (Byte b) (Receive n b)
-  nack-address : {n : ℕ} → Meeting (Address n) Nack (NackAddress n)
-  nack-sending : {n : ℕ} → Meeting (Sending n) Nack (NackSending n)
+  nack-address : {n : ℕ} → Meeting (Address n) (Ninth High) (NackAddress n)
+  nack-sending : {n : ℕ} → Meeting (Sending n) (Ninth High) (NackSending n)
   begin : Meeting Waiting Tick Begin
   late : {p : Phase} → beatOf p ≡ LateBeat → Meeting p Tick Late
   end : Meeting Stopping Stop End
@@ -38,24 +39,24 @@ beat Waiting = begin
 
 pub meeting : (p : Phase) (te : Bool) (n : ℕ) (e : Event) → Meeting p e (turnOf p te n e)
 unfolding turnOf tickTurn
-meeting Idle te n Ack = unawaited
-meeting (Address k) te n Ack = ack-address
-meeting (Sending k) te n Ack = ack-sending
-meeting (Receiving k) te n Ack = unawaited
-meeting Stopping te n Ack = unawaited
-meeting Waiting te n Ack = unawaited
+meeting Idle te n (Ninth Low) = unawaited
+meeting (Address k) te n (Ninth Low) = ack-address
+meeting (Sending k) te n (Ninth Low) = ack-sending
+meeting (Receiving k) te n (Ninth Low) = unawaited
+meeting Stopping te n (Ninth Low) = unawaited
+meeting Waiting te n (Ninth Low) = unawaited
 meeting Idle te n (Byte b) = unawaited
 meeting (Address k) te n (Byte b) = unawaited
 meeting (Sending k) te n (Byte b) = unawaited
 meeting (Receiving k) te n (Byte b) = receive
 meeting Stopping te n (Byte b) = unawaited
 meeting Waiting te n (Byte b) = unawaited
-meeting Idle te n Nack = unawaited
-meeting (Address k) te n Nack = nack-address
-meeting (Sending k) te n Nack = nack-sending
-meeting (Receiving k) te n Nack = unawaited
-meeting Stopping te n Nack = unawaited
-meeting Waiting te n Nack = unawaited
+meeting Idle te n (Ninth High) = unawaited
+meeting (Address k) te n (Ninth High) = nack-address
+meeting (Sending k) te n (Ninth High) = nack-sending
+meeting (Receiving k) te n (Ninth High) = unawaited
+meeting Stopping te n (Ninth High) = unawaited
+meeting Waiting te n (Ninth High) = unawaited
 meeting p te n Tick = pick-holds (Meeting p Tick) (tickingOf te n) (λ _. beat p) (λ _. unawaited)
 meeting Idle te n Stop = unawaited
 meeting (Address k) te n Stop = unawaited
