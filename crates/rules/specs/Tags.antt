@@ -63,6 +63,6 @@ eventsWith v = Ninth Low ∷ Byte v ∷ Ninth High ∷ Tick ∷ Stop ∷ Sda ∷
 abbrev pub eventOf : Tag → Decoded
 eventOf t = among t (eventsWith (t .value))
 
--- an event that carries none, by a value beside its kind
+-- of a kind that carries no value: its event, if the value beside it is 0
 unfoldable pub plainOf : Event → ℕ → Decoded
 plainOf e v = if eqb v 0 then Known e else NoEvent
