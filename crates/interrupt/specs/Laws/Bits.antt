@@ -29,10 +29,10 @@ unfolding weigh if_then_else_
 unset true e = absurd (omega (arith, e))
 unset false e = refl
 
-told : (b : Bool) (n : ℕ) → n ≡ weigh b 1 → eqb n 1 ≡ b
+bit-weighed : (b : Bool) (n : ℕ) → n ≡ weigh b 1 → eqb n 1 ≡ b
 unfolding weigh if_then_else_
-told true n e = eq-eqb n 1 e
-told false n e = ne-eqb n 1 (λ k. omega (arith, e, k))
+bit-weighed true n e = eq-eqb n 1 e
+bit-weighed false n e = ne-eqb n 1 (λ k. omega (arith, e, k))
 
 pub clear : (v w : ℕ) → v / w % 2 ≡ 0 → bitOf v w ≡ false
 clear v w e = ne-eqb (v / w % 2) 1 (λ k. omega (arith, e, k))
@@ -77,12 +77,12 @@ module _ (a b c d e f g h : Bool) where
   bits v s =
       let n = digits _ _ _ _ _ _ _ _ _ (at-most a) (at-most b) (at-most c) (at-most d) (at-most e) (at-most f) (at-most g) (at-most h) (s ∙ by-ones) in
       record {
-        seven = told a _ (n .0);
-        six = told b _ (n .1);
-        five = told c _ (n .2);
-        four = told d _ (n .3);
-        three = told e _ (n .4);
-        two = told f _ (n .5);
-        one = told g _ (n .6);
-        zero = told h _ (n .7);
+        seven = bit-weighed a _ (n .0);
+        six = bit-weighed b _ (n .1);
+        five = bit-weighed c _ (n .2);
+        four = bit-weighed d _ (n .3);
+        three = bit-weighed e _ (n .4);
+        two = bit-weighed f _ (n .5);
+        one = bit-weighed g _ (n .6);
+        zero = bit-weighed h _ (n .7);
       }
