@@ -1,13 +1,14 @@
 -- Facts that functions hand to each other, beside what they return. Nobody has to believe them: each is proved where it is promised.
-use Prim.Native.Nat.{ℕ, _+_, _<_, _≤_}
+use Prim.Native.Nat.{ℕ, _≤_}
 use mathlib.Core.Bool.{true}
 use mathlib.Core.List.{List}
 use mathlib.Core.Path.{_≡_}
-use lib.ListN.{length, getD}
+use lib.ListN.{length}
 use Rattle.rules.specs.Numbers.{bufferSize}
 use Rattle.sequence.specs.declared.wires.Turn.{Turn}
 use Rattle.sequence.specs.declared.wires.Turn.the-variants.{Unawaited, AckAddress, AckSending, NackAddress, NackSending, Receive, Begin, Late, End, Fault as Faulty}
 use Rattle.rules.specs.Facts.{Running}
+use Rattle.sequence.specs.Facts.{Counting}
 use Rattle.channel.specs.declared.state.Channel.{Channel}
 use Rattle.channel.specs.State.{countOf}
 use Rattle.channel.specs.Range.{inRange}
@@ -16,11 +17,6 @@ use Rattle.channel.specs.Range.{inRange}
 pub record Accepted (c : Channel) (m : List ℕ) : Type 0 where
   pub ranged : inRange c ≡ true
   pub whole : length m ≡ bufferSize
-
--- a byte of transaction n is awaited
-pub record Counting (lens counts : List ℕ) (n : ℕ) : Type 0 where
-  pub running : Running lens n
-  pub short : getD counts n 0 < getD lens (n + 1) 0
 
 -- what a turn may rely on
 abbrev pub Meets : Channel → Turn → Type 0

@@ -2,16 +2,16 @@
 ghost use mathlib.Core.Bool.{true};
 ghost use mathlib.Core.Path.{_≡_};
 ghost use Prim.Native.Nat.{_+_, _<_, _≤_};
-ghost use lib.ListN.{length, set, getD};
+ghost use lib.ListN.{length, getD};
 ghost use Rattle.rules.specs.Numbers.{bufferSize};
 ghost use Rattle.rules.specs.Tables.{startOf};
 ghost use Rattle.rules.specs.Facts.{Running};
-ghost use Rattle.sequence.specs.Facts.{Exists, Ready};
+ghost use Rattle.sequence.specs.Facts.{Counting, Exists, Ready};
 ghost use Rattle.channel.specs.Lent.{lent, found, left, leaves};
 ghost use Rattle.channel.specs.Range.{inRange};
 ghost use Rattle.channel.specs.Wires.{sentTo, startedBy, started, cleared, beganBy, begun, movedTo, onward, finished, byteSent, sendOn, ackWrite, ackAddress, ackSending};
 ghost use Rattle.channel.specs.Wires.{receiveOn, received, failedBy, nacked, turned, beaten, triggered};
-ghost use Rattle.channel.specs.Facts.{Counting, Meets};
+ghost use Rattle.channel.specs.Facts.{Meets};
 use head::Head;
 use head::Headed;
 use rules::ADDRESS_REFUSED;
@@ -31,15 +31,6 @@ use sequence::Move;
 use sequence::Next;
 use sequence::Tail;
 use sequence::Turn;
-
-// One byte more of transaction n.
-fn count_one(counts: &mut [u8; 64], n: usize)
-    requires { ⌜ (n < 64) × (getD (now counts) n 0 < 255) ⌝ }
-    ensures { λ _. ⌜ now (counts .exit) ≡ set (now (counts .entry)) n (getD (now (counts .entry)) n 0 + 1) ⌝ }
-{
-    let k = counts[n];
-    counts[n] = k + 1;
-}
 
 // ---- a frame begins
 
@@ -295,7 +286,7 @@ fn ack_sending(
     let len = rules::byte(lens[n + 1]);
     let k = rules::byte(counts[n]) + 1;
     let x = sequence::next_byte(h.halts(), k, len);
-    count_one(counts, n);
+    sequence::count_one(counts, n);
     send_on(h, sla, lens, status, counts, mem, n, k, x)
 }
 
@@ -333,12 +324,11 @@ fn receive(
     requires { ⌜ Counting (now lens) (now counts) n × (length (now mem) ≡ bufferSize) ⌝ }
     ensures { λ r. ⌜ leaves r sla lens status counts mem ≡ received (found h sla lens status counts) (now (mem .entry)) n b ⌝ }
 {
-    let had = rules::byte(counts[n]);
-    let i = rules::start_of(lens, n) + had;
-    mem[i] = b;
+    sequence::store(lens, counts, mem, n, b);
     let len = rules::byte(lens[n + 1]);
-    let x = sequence::next_byte(h.halts(), had + 1, len);
-    count_one(counts, n);
+    let k = rules::byte(counts[n]) + 1;
+    let x = sequence::next_byte(h.halts(), k, len);
+    sequence::count_one(counts, n);
     receive_on(h, sla, lens, status, counts, n, x)
 }
 

@@ -3,6 +3,8 @@ use Prim.Native.Nat.{ℕ, _≤_, _+_}
 use mathlib.Core.Bool.{Bool}
 use mathlib.Core.List.{List}
 use mathlib.Core.Path.{_≡_}
+use lib.ListN.{getD, set}
+use Rattle.rules.specs.Tables.{startOf}
 use Rattle.rules.specs.declared.registers.Command.{Command}
 use Rattle.rules.specs.declared.state.Flags.{Flags}
 use Rattle.rules.specs.declared.state.Phase.{Phase}
@@ -91,6 +93,12 @@ next-move-once halt to count = no-second (λ r h. h .0)
 
 pub next-byte-once : (halt : Bool) (n len : ℕ) → Once Next (λ r. (r ≡ nextOf halt n len) × Ready r n len)
 next-byte-once halt n len = no-second (λ r h. h .0)
+
+pub count-one-once : (counts : List ℕ) (n : ℕ) → Once (List ℕ) (λ counts′. counts′ ≡ set counts n (getD counts n 0 + 1))
+count-one-once counts n = no-second (λ r h. h)
+
+pub store-once : (lens counts mem : List ℕ) (n b : ℕ) → Once (List ℕ) (λ mem′. mem′ ≡ set mem (startOf lens n + getD counts n 0) b)
+store-once lens counts mem n b = no-second (λ r h. h)
 
 pub stop-by-once : (t : Tail) → Once Action (λ r. r ≡ stopBy t)
 stop-by-once t = no-second (λ r h. h)

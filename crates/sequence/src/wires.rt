@@ -1,11 +1,13 @@
 // Document 01, 'A sequence on the wires': what a write to CONTROL asks for, how a frame begins, what an event comes to, where a walk goes on, how a frame ends, and a trigger edge.
 ghost use mathlib.Core.Path.{_≡_};
 ghost use Prim.Native.Nat.{_+_, _<_, _≤_};
-ghost use lib.ListN.{getD};
+ghost use lib.ListN.{length, set, getD};
+ghost use Rattle.rules.specs.Numbers.{bufferSize};
+ghost use Rattle.rules.specs.Tables.{startOf};
 ghost use Rattle.sequence.specs.Wires.{stopAsked, startAsked, leaveAsked, askedIn, askOf, beginningOf, againBy};
 ghost use Rattle.sequence.specs.Wires.{ackTurn, byteTurn, nackTurn, ninthTurn, maskedOf, haltedOf, nextOf, reachOf, moveOf, stopBy};
 ghost use Rattle.sequence.specs.Wires.{tickingOf, beatOf, beatTurn, tickTurn, stopTurn, sdaTurn, sclTurn, turnOf, endingOf, restOf, fldAfter, matchesOf, edgeBeat};
-ghost use Rattle.sequence.specs.Facts.{Ready, Exists};
+ghost use Rattle.sequence.specs.Facts.{Counting, Ready, Exists};
 use rules::Action;
 use rules::Command;
 use rules::Edge;
@@ -245,6 +247,24 @@ pub fn next_byte(halt: bool, n: usize, len: usize) -> Next
     } else {
         Next::Over
     }
+}
+
+// BYTECOUNT plus one.
+pub fn count_one(counts: &mut [u8; 64], n: usize)
+    requires { ⌜ (n < 64) × (getD (now counts) n 0 < 255) ⌝ }
+    ensures { λ _. ⌜ now (counts .exit) ≡ set (now (counts .entry)) n (getD (now (counts .entry)) n 0 + 1) ⌝ }
+{
+    let k = counts[n];
+    counts[n] = k + 1;
+}
+
+// The byte of a BYTE stored: behind those of transaction n that came before it.
+pub fn store(lens: &[u8; 65], counts: &[u8; 64], mem: &mut [u8], n: usize, b: u8)
+    requires { ⌜ Counting (now lens) (now counts) n × (length (now mem) ≡ bufferSize) ⌝ }
+    ensures { λ _. ⌜ now (mem .exit) ≡ set (now (mem .entry)) (startOf (now (lens .entry)) n + getD (now (counts .entry)) n 0) b ⌝ }
+{
+    let i = rules::start_of(lens, n) + rules::byte(counts[n]);
+    mem[i] = b;
 }
 
 // How far the walk goes on behind transaction n.

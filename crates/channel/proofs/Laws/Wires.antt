@@ -18,13 +18,13 @@ use Rattle.sequence.specs.declared.wires.Tail.{Tail}
 use Rattle.sequence.specs.Wires.{beginningOf, reachOf, moveOf, nextOf, maskedOf}
 use Rattle.rules.specs.Laws.Tables.{start-next}
 use Rattle.rules.specs.Facts.{Running}
-use Rattle.sequence.specs.Facts.{Exists, Ready}
+use Rattle.sequence.specs.Facts.{Counting, Exists, Ready}
 use Rattle.channel.specs.declared.state.Channel.{Channel}
 use Rattle.channel.specs.declared.state.Stepped.{Stepped}
 use Rattle.channel.specs.State.{countOf, withHead, withStatus, withCounts}
 use Rattle.head.specs.declared.state.Head.{Head}
 use Rattle.head.specs.Head.{haltOf, noted}
-use Rattle.channel.specs.Facts.{Counting, Meets}
+use Rattle.channel.specs.Facts.{Meets}
 use Rattle.channel.specs.Wires.{slaveOf, lengthOf, bytesOf, resolved, passed, movedTo, onward, beganBy, begun, countedOne, sendOn, ackSending, failedBy, nacked}
 
 -- ---- a move to a transaction
@@ -38,9 +38,6 @@ pub byte-in : (l : List ℕ) (n k len : ℕ) (x : Next) → Running l n → Read
 byte-in l n k len x r y q e =
     let h : k < getD l (n + 1) 0 = rw q at y in
     let g = start-next l n (getD l 0 0) (r .below) in omega arith
-
-pub current-in : (l q : List ℕ) (n s k len : ℕ) → Counting l q n → s ≡ startOf l n → k ≡ getD q n 0 → len ≡ bufferSize → s + k < len
-current-in l q n s k len r p e w = let g = start-next l n (getD l 0 0) (r .running .below) in omega arith
 
 -- ---- what each turn may rely on
 module _ (c : Channel) (t : Turn) (h : Meets c t) where
