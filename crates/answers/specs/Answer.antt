@@ -9,7 +9,7 @@ use lib.Seq.{sets}
 use Rattle.laws.specs.Pick.{if_then_else_}
 use Rattle.laws.specs.Ascii.{ascii}
 use Rattle.rules.specs.Numbers.{unreadable}
-use Rattle.sequence.specs.Action.{digitOf, textOf}
+use Rattle.letters.specs.Letters.{digitOf, textOf}
 use Rattle.rules.specs.declared.wires.Action.{Action}
 use Rattle.rules.specs.declared.wires.Action.the-variants.{Nothing, S, R, D, C, A, Np, Nr, P}
 use Rattle.steps.specs.declared.answer.Act.{Act}

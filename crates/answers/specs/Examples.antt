@@ -4,7 +4,7 @@ use mathlib.Core.List.{[], _∷_}
 use mathlib.Core.Path.{_≡_, refl}
 use Rattle.laws.specs.Ascii.{ascii}
 use Rattle.laws.specs.Pick.{if_then_else_}
-use Rattle.sequence.specs.Action.{digitOf}
+use Rattle.letters.specs.Letters.{digitOf}
 use Rattle.rules.specs.declared.wires.Action.{Action}
 use Rattle.rules.specs.declared.wires.Action.the-variants.{Nothing, S, Np}
 use Rattle.steps.specs.declared.answer.Act.{Act}

@@ -89,8 +89,8 @@ fn put_middle(out: &mut [u8], at: usize, value: u8, int: bool) -> usize
     requires { ⌜ at + 6 ≤ length (now out) ⌝ }
     ensures { λ r. ⌜ Put (now (out .entry)) at (middleOf value int) r (now (out .exit)) ⌝ }
 {
-    let high = sequence::digit(value / 16);
-    let low = sequence::digit(value % 16);
+    let high = letters::digit(value / 16);
+    let low = letters::digit(value % 16);
     let bit = level(int);
     let text = [b' ', high, low, b' ', bit, b' '];
     put(out, at, &text)
@@ -136,7 +136,7 @@ fn put_entry(out: &mut [u8], at: usize, later: bool, c: u8, a: Action) -> usize
 {
     let p = put_if(out, at, later, b',');
     let q = put(out, p, &[48 + c, b':']);
-    let t = sequence::spell(a);
+    let t = letters::spell(a);
     let n = t.len;
     let bytes = t.bytes;
     put_letters(out, q, bytes, n)

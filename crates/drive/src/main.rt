@@ -19,7 +19,7 @@ fn say(text: &[u8]) {
 }
 
 fn say_hex(b: u8) {
-    let digits = [sequence::digit(b / 16), sequence::digit(b % 16)];
+    let digits = [letters::digit(b / 16), letters::digit(b % 16)];
     say(&digits);
 }
 
@@ -85,7 +85,7 @@ fn say_first(text: [u8; 4], n: usize)
 }
 
 fn say_action(a: Action) {
-    let t = sequence::spell(a);
+    let t = letters::spell(a);
     let n = t.len;
     let text = t.bytes;
     say_first(text, n);

@@ -9,6 +9,7 @@ pub mod Channel
 pub mod Heads
 pub mod Part
 pub mod Script
+pub mod Letters
 pub mod Answers
 pub mod Lent
 pub mod Runner

@@ -9,7 +9,6 @@ use Rattle.rules.specs.declared.registers.Command.{Command}
 use Rattle.rules.specs.declared.state.Flags.{Flags}
 use Rattle.rules.specs.declared.state.Phase.{Phase}
 use Rattle.rules.specs.declared.state.Walk.{Walk}
-use Rattle.sequence.specs.declared.action.Text.{Text}
 use Rattle.rules.specs.declared.wires.Action.{Action}
 use Rattle.sequence.specs.declared.wires.Ask.{Ask}
 use Rattle.sequence.specs.declared.wires.Beat.{Beat}
@@ -22,18 +21,10 @@ use Rattle.sequence.specs.declared.wires.Move.{Move}
 use Rattle.sequence.specs.declared.wires.Next.{Next}
 use Rattle.sequence.specs.declared.wires.Tail.{Tail}
 use Rattle.sequence.specs.declared.wires.Turn.{Turn}
-use Rattle.sequence.specs.Action.{digitOf, textOf}
 use Rattle.sequence.specs.Facts.{Exists, Ready}
 use Rattle.sequence.specs.Walk.{idle, waiting, toPhase, stoRecorded, seqRecorded, errorNoted, noFlags, nackFlags, faultFlags, lateFlags, lateWalk, endFlags, endWalk}
 use Rattle.sequence.specs.Wires.{turnOf, edgeBeat, haltedOf, reachOf, moveOf, nextOf, stopBy, againBy, maskedOf, beginningOf, restOf, endingOf, askOf}
 use Rattle.promises.specs.Promise.{Once, no-second}
-
--- ---- action.rt
-pub digit-once : (d : ℕ) → Once ℕ (λ r. r ≡ digitOf d)
-digit-once d = no-second (λ r h. h)
-
-pub spell-once : (a : Action) → Once Text (λ r. (r ≡ textOf a) × (r .len ≤ 4))
-spell-once a = no-second (λ r h. h .0)
 
 -- ---- walk.rt
 pub idle-walk-once : Once Walk (λ r. r ≡ idle)

@@ -1,11 +1,7 @@
-// Document 01, 'A sequence on the wires', as far as it needs no record of a channel: its enums, its decisions, the changes of a walk and of the flags, and the letters of an action.
-mod action;
+// Document 01, 'A sequence on the wires', as far as it needs no record of a channel: its enums, its decisions, the changes of a walk and of the flags, and a byte counted and stored.
 mod walk;
 mod wires;
 
-pub use action::Text;
-pub use action::digit;
-pub use action::spell;
 pub use walk::end_flags;
 pub use walk::end_walk;
 pub use walk::fault_flags;

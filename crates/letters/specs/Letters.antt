@@ -3,7 +3,7 @@ use Prim.Native.Nat.{ℕ, _+_, _/_, _%_}
 use mathlib.Core.List.{[], _∷_}
 use lib.Dec.{ltb}
 use Rattle.laws.specs.Pick.{if_then_else_}
-use Rattle.sequence.specs.declared.action.Text.{Text}
+use Rattle.letters.specs.declared.Text.{Text}
 use Rattle.rules.specs.declared.wires.Action.{Action}
 use Rattle.rules.specs.declared.wires.Action.the-variants.{Nothing, S, R, D, C, A, Np, Nr, P}
 

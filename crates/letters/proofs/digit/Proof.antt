@@ -1,9 +1,9 @@
--- `sequence::action::digit` meets its contract.
+-- `letters::digit` meets its contract.
 use Rattle.laws.specs.Cases.{cases}
-use Rattle.sequence.specs.Action.{digitOf}
+use Rattle.letters.specs.Letters.{digitOf}
 use borrow.Author.Needs.{needs}
-use Rattle.sequence.proofs.action.digit.Statement.{statement}
-use Rattle.sequence.proofs.action.digit.Tie as tie
+use Rattle.letters.proofs.digit.Statement.{statement}
+use Rattle.letters.proofs.digit.Tie as tie
 
 pub digit-spec : {M : Type 1} → statement M
 unfolding digitOf

@@ -1,7 +1,7 @@
 // Document 01's letters for an action, as the script program prints them.
 ghost use mathlib.Core.Path.{_≡_};
 ghost use Prim.Native.Nat.{_<_, _≤_};
-ghost use Rattle.sequence.specs.Action.{digitOf, oneLetter, twoLetters, oneAndByte, twoAndByte, textOf};
+ghost use Rattle.letters.specs.Letters.{digitOf, oneLetter, twoLetters, oneAndByte, twoAndByte, textOf};
 use rules::Action;
 
 // The first `len` of the bytes are the text, and the others are 0.

@@ -1,7 +1,7 @@
--- `sequence::action::spell` meets its contract: in each arm the action is known.
+-- `letters::spell` meets its contract: in each arm the action is known.
 use borrow.Author.Needs.{needs}
-use Rattle.sequence.proofs.action.spell.Statement.{statement}
-use Rattle.sequence.proofs.action.spell.Tie as tie
+use Rattle.letters.proofs.spell.Statement.{statement}
+use Rattle.letters.proofs.spell.Tie as tie
 
 pub spell-spec : {M : Type 1} → statement M
 spell-spec =

@@ -1,7 +1,7 @@
--- `sequence::action::one_and` meets its contract.
+-- `letters::one_and` meets its contract.
 use borrow.Author.Needs.{needs}
-use Rattle.sequence.proofs.action.one_and.Statement.{statement}
-use Rattle.sequence.proofs.action.one_and.Tie as tie
+use Rattle.letters.proofs.one_and.Statement.{statement}
+use Rattle.letters.proofs.one_and.Tie as tie
 
 pub one-and-spec : {M : Type 1} → statement M
 one-and-spec =

@@ -1,7 +1,7 @@
--- `sequence::action::two_and` meets its contract.
+-- `letters::two_and` meets its contract.
 use borrow.Author.Needs.{needs}
-use Rattle.sequence.proofs.action.two_and.Statement.{statement}
-use Rattle.sequence.proofs.action.two_and.Tie as tie
+use Rattle.letters.proofs.two_and.Statement.{statement}
+use Rattle.letters.proofs.two_and.Tie as tie
 
 pub two-and-spec : {M : Type 1} → statement M
 two-and-spec =
