@@ -1,10 +1,15 @@
 -- What a line does to a part and its memory (`answered`, `afterLine`, Run.antt), by whom it concerns.
 use Prim.Native.Nat.{ℕ, _<_}
+use mathlib.Core.Bool.{Bool, false}
 use mathlib.Core.List.{List}
+use Rattle.laws.specs.Pick.{if_then_else_}
 use Rattle.steps.specs.declared.map.Target.{Target}
 use Rattle.steps.specs.declared.map.Target.the-variants.{One as OneTarget, All as AllTarget}
 use Rattle.steps.specs.declared.map.Wide.the-variants.{Beyond}
 use Rattle.steps.specs.Map.{targetOf}
+use Rattle.steps.specs.Keys.{opWrites}
+use Rattle.heads.specs.declared.Heads.{Heads}
+use Rattle.heads.specs.Heads.{keyedOf}
 use Rattle.part.specs.declared.state.Part.{Part}
 use Rattle.part.specs.declared.state.PartStepped.{PartStepped}
 use Rattle.part.specs.Step.{allServed, allStored}
@@ -37,6 +42,11 @@ restTarget Unread = AllTarget Beyond
 abbrev pub aimTarget : Aim → Target
 aimTarget (One op c) = OneTarget op c
 aimTarget (Others t) = restTarget t
+
+-- whether it may forget a key: a step of one channel only where it writes, and then only what is pending
+abbrev pub mayForget : Heads → Aim → Bool
+mayForget h (One op c) = if opWrites op then keyedOf h else false
+mayForget h (Others t) = keyedOf h
 
 -- what is no step of one channel: a line that can't be read is no. 8, and leaves the part
 abbrev pub restServed : Part → Rest → PartStepped

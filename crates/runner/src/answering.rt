@@ -2,11 +2,15 @@
 ghost use mathlib.Core.Path.{_≡_};
 ghost use Prim.Native.Nat.{_≤_};
 ghost use lib.Dec.{ltb};
+ghost use mathlib.Core.Bool.{false};
+ghost use Rattle.laws.specs.Pick.{if_then_else_};
+ghost use Rattle.steps.specs.Keys.{opWrites};
+ghost use Rattle.heads.specs.Heads.{keyedOf};
 ghost use lib.ListN.{length};
 ghost use Rattle.steps.specs.Facts.{InPart};
 ghost use Rattle.part.specs.Rows.{rowsIn, rowsLeft, found, Ready, Gives};
 ghost use Rattle.part.specs.Facts.{Whole};
-ghost use Rattle.runner.specs.Performing.{aimAt, aimOf, InAim, restTarget, aimTarget, restServed, restStored};
+ghost use Rattle.runner.specs.Performing.{aimAt, aimOf, InAim, restTarget, aimTarget, mayForget, restServed, restStored};
 ghost use Rattle.runner.specs.Text.{numberAfter};
 ghost use Rattle.runner.specs.Feeding.{Room, Answered};
 use crate::lines::line_end;
@@ -76,6 +80,25 @@ fn rest_target(t: Rest) -> Target
     }
 }
 
+// Whether the line may forget a key. A step of one channel does so only where it writes, and then only what is pending.
+fn may_forget(heads: Heads, a: Aim) -> bool
+    ensures { λ r. ⌜ r ≡ mayForget heads a ⌝ }
+{
+    match a {
+        Aim::One(op, _) => writes_keyed(heads, op),
+        Aim::Others(_) => heads.keyed(),
+    }
+}
+
+fn writes_keyed(heads: Heads, op: Op) -> bool
+    ensures { λ r. ⌜ r ≡ (if opWrites op then keyedOf heads else false) ⌝ }
+{
+    if steps::op_writes(op) {
+        return heads.keyed();
+    }
+    false
+}
+
 // A step of the whole part; a line that can't be read is no. 8 and leaves the part.
 fn perform(
     heads: Heads,
@@ -135,8 +158,8 @@ pub fn answer_lines(s: Course, block: &[u8], mem: &mut [u8], out: &mut [u8]) -> 
     while has_lf(end, block.len()) {
         let l = script::read_line(&block[from..end]);
         let a = aim_of(l);
-        // heads that come back are a copy, and where no key is pending none is forgotten
-        if heads.keyed() {
+        // heads that come back are a copy, and seldom is a key pending where a line writes
+        if may_forget(heads, a) {
             let left = heads.forget(aim_target(a));
             heads = left;
         }

@@ -1,6 +1,6 @@
 -- A line done in heads and rows, by whom it concerns, is the line done to the part; and no. 9 refuses nothing after it.
 use Prim.Native.Nat.{ℕ}
-use mathlib.Core.Bool.{false}
+use mathlib.Core.Bool.{Bool, true, false}
 use mathlib.Core.List.{List}
 use mathlib.Core.Path.{_≡_, refl, sym, _∙_, ap, subst}
 use Rattle.laws.specs.Pick.{if_then_else_}
@@ -8,6 +8,7 @@ use Rattle.steps.specs.declared.map.Op.{Op}
 use Rattle.steps.specs.declared.map.Target.{Target}
 use Rattle.steps.specs.declared.map.Target.the-variants.{One as OneTarget, All as AllTarget}
 use Rattle.steps.specs.Map.{targetOf}
+use Rattle.steps.specs.Keys.{opWrites}
 use Rattle.heads.specs.declared.Heads.{Heads}
 use Rattle.heads.specs.declared.HeadsStepped.{HeadsStepped}
 use Rattle.heads.specs.declared.OneStepped.{OneStepped}
@@ -26,7 +27,7 @@ use Rattle.runner.specs.declared.answering.Aim.{Aim}
 use Rattle.runner.specs.declared.answering.Aim.the-variants.{One, Others}
 use Rattle.runner.specs.declared.answering.Rest.{Rest}
 use Rattle.runner.specs.Run.{start, lineAnswer, afterLine, lineTarget}
-use Rattle.runner.specs.Performing.{aimAt, aimOf, aimTarget, restServed, restStored}
+use Rattle.runner.specs.Performing.{aimAt, aimOf, restTarget, aimTarget, mayForget, restServed, restStored}
 
 -- ---- the part after a line with its answer, and the memory
 abbrev pub performed : Part → List ℕ → Line → PartStepped
@@ -103,10 +104,19 @@ pub aim-target : (l : Line) → aimTarget (aimOf l) ≡ lineTarget l
 aim-target (Readable s) = at-target (targetOf s)
 aim-target Unreadable = refl
 
--- ---- the heads that are left of h: asked for, or h itself where no key is pending
+-- ---- the heads that are left of h: asked for, or h itself where the line forgets none
 module _ (p : Part) (h : Heads) (t : Rows) (v : Holds p h t) (l : Line) where
   pub asked-left : (a : Aim) → a ≡ aimOf l → (x : Target) → x ≡ aimTarget a → (g : Heads) → g ≡ headsLeft x h → Holds (leftBy l p) g t
   asked-left a i x j g e = let k : x ≡ lineTarget l = j ∙ ap aimTarget i ∙ aim-target l in rw (e, k) (left-holds p h t v (lineTarget l))
 
-  pub none-asked : (g : Heads) → g ≡ h → keyedOf h ≡ false → Holds (leftBy l p) g t
-  none-asked g q e = rw (q, none-left p h t v e (lineTarget l)) v
+  no-write : (op : Op) (c : ℕ) (b : Bool) → opWrites op ≡ b → (if b then keyedOf h else false) ≡ false → forgetting (OneTarget op c) p ≡ p
+  unfolding forgetting if_then_else_
+  no-write op c true w e = none-left p h t v e (OneTarget op c)
+  no-write op c false w e = rw w
+
+  none-forgotten : (a : Aim) → mayForget h a ≡ false → forgetting (aimTarget a) p ≡ p
+  none-forgotten (One op c) e = no-write op c (opWrites op) refl e
+  none-forgotten (Others x) e = none-left p h t v e (restTarget x)
+
+  pub none-asked : (a : Aim) → a ≡ aimOf l → (g : Heads) → g ≡ h → mayForget h a ≡ false → Holds (leftBy l p) g t
+  none-asked a i g q e = let k : aimTarget a ≡ lineTarget l = ap aimTarget i ∙ aim-target l in rw (q, ← k, none-forgotten a e) v

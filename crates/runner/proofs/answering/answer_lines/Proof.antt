@@ -75,7 +75,7 @@ left join =
     let l = lineOf join in
     ⊎-elim {C = Holds (leftBy l (g .part)) (join .if2 .heads) (rowsAt turn)}
     (λ w. asked-left (g .part) h (rowsAt turn) (g .holds) l _ (aimOf join .aim-of .ensures .0) (w .1 .result) (w .1 .ensures) (join .if2 .heads) (w .3 ∙ w .2 .ensures))
-    (λ w. none-asked (g .part) h (rowsAt turn) (g .holds) l (join .if2 .heads) (w .1) (sym (join .before .keyed .ensures) ∙ w .0 .left))
+    (λ w. none-asked (g .part) h (rowsAt turn) (g .holds) l _ (aimOf join .aim-of .ensures .0) (join .if2 .heads) (w .1) (sym (join .before .may-forget .ensures) ∙ w .0 .left))
     (join .if2 .came)
 
 left-accepted : (join : tie.Joined2 Inv-loop μ-loop) → Whole (leftBy (lineOf join) (loopOf join .loop .inv .1 .part)) (loopOf join .loop .mem)
