@@ -114,9 +114,9 @@ module _ (p : Part) (h : Heads) (t : Rows) (v : Holds p h t) (l : Line) where
   no-write op c true w e = none-left p h t v e (OneTarget op c)
   no-write op c false w e = rw w
 
-  none-forgotten : (a : Aim) → mayForget h a ≡ false → forgetting (aimTarget a) p ≡ p
-  none-forgotten (One op c) e = no-write op c (opWrites op) refl e
-  none-forgotten (Others x) e = none-left p h t v e (restTarget x)
+  forgets-none : (a : Aim) → mayForget h a ≡ false → forgetting (aimTarget a) p ≡ p
+  forgets-none (One op c) e = no-write op c (opWrites op) refl e
+  forgets-none (Others x) e = none-left p h t v e (restTarget x)
 
   pub none-asked : (a : Aim) → a ≡ aimOf l → (g : Heads) → g ≡ h → mayForget h a ≡ false → Holds (leftBy l p) g t
-  none-asked a i g q e = let k : aimTarget a ≡ lineTarget l = ap aimTarget i ∙ aim-target l in rw (q, ← k, none-forgotten a e) v
+  none-asked a i g q e = let k : aimTarget a ≡ lineTarget l = ap aimTarget i ∙ aim-target l in rw (q, ← k, forgets-none a e) v
