@@ -1218,7 +1218,7 @@ int main(int argc, char **argv)
     last_without_lf = (int)(seed % 2);
     rate = noises[seed % 5];
     burst = bursts[seed / 5 % 3];
-    reset_part(&part);
+    reset_part(&part, PCA9663);
     while (made < wanted) {
         if (plans[c].together && plans[c].first < plans[c].last) {
             advance(c);

@@ -3,40 +3,59 @@
  * sees the events that the channel answered 0, the actions, the two tables
  * and the buffer, and counts by these alone. After every step it compares.
  * One more, on the parallel bus, sees the lines and says which channels each
- * has to reset. The last one has the flags and their masks as rows, and says
- * which channel is pending and whether INT is pulled.
+ * has to reset, and which are UFm. The last one has the flags and their masks
+ * as rows, and says which channel is pending and whether INT is pulled.
  *
  * model.c includes it before struct channel is known: it can't look at a
- * channel's phase, transaction or key, and BYTECOUNT is handed to it to be
- * compared.
+ * channel's phase, transaction, key or kind, and BYTECOUNT, STATUS and CHSTATUS
+ * are handed to it to be compared.
  */
 
 /* What it is told of a step: the bit of an event answered 0, and what no wire
  * shows. A frame of skipped transactions only has no action, and its STATUS
- * may be that of the frame before; a reset sends no STOP. */
+ * may be that of the frame before; a reset sends no STOP. REFUSED, an event
+ * not awaited, serves the counters only. */
 #define TOLD(event) (1u << (event))
+#define REFUSED(event) (TOLD(event) << 16)
 enum {
-    TOLD_EDGE = TOLD(8),    /* a trigger edge for this channel */
-    TOLD_BEGIN = TOLD(9),   /* a frame is to begin; the tables say if it can */
-    TOLD_RESET = TOLD(10)
+    TOLD_EDGE = TOLD(9),    /* a trigger edge for this channel */
+    TOLD_BEGIN = TOLD(10),  /* a frame is to begin; the tables say if it can */
+    TOLD_RESET = TOLD(11)
 };
 
 /* "of the ACK, NACK, BYTE and STOP events answered 0; TICK and triggers don't
- *  count" */
+ *  count"; SENT counts as ACK does */
 enum {
-    COUNTED = TOLD(E_ACK) | TOLD(E_NACK) | TOLD(E_BYTE) | TOLD(E_STOP)
+    ACKNOWLEDGED = TOLD(E_ACK) | TOLD(E_SENT),
+    COUNTED = ACKNOWLEDGED | TOLD(E_NACK) | TOLD(E_BYTE) | TOLD(E_STOP)
 };
+
+/* "ACK, NACK, BYTE, SDA and SCL on a UFm channel, and SENT on channel 0 or on a
+ *  PCA9663, are no. 7." */
+enum {
+    OF_UFM = TOLD(E_SENT),
+    OF_FMPLUS = TOLD(E_ACK) | TOLD(E_NACK) | TOLD(E_BYTE) | TOLD(E_SDA)
+        | TOLD(E_SCL)
+};
+
+static unsigned of_other_kind(int ufm)
+{
+    return ufm ? OF_FMPLUS : OF_UFM;
+}
 
 /* What it sees of a step */
 struct sight {
     unsigned told;
     struct action act;
-    const uint8_t *slatable, *tranconfig, *bytecount, *buffer;
-    uint8_t control, intmsk;    /* for the counters only */
+    const uint8_t *slatable, *tranconfig, *bytecount, *status, *buffer;
+    uint8_t ufm;                /* by the logger on the bus */
+    uint8_t control, chstatus, intmsk;
+    unsigned for_kind;          /* refused, and the other kind takes it */
 };
 
 struct logger {
     /* as they were when the frame began */
+    uint8_t ufm;
     uint8_t slatable[ENTRIES], tranconfig[ENTRIES + 1], buffer[BUFFER];
     /* by the wires since then */
     uint8_t count[ENTRIES];     /* data bytes acknowledged or received */
@@ -54,7 +73,11 @@ struct logger {
 enum {
     ENDED, EXACT, EXACT_64, EXACT_4352, OF_64, OF_4352, BY_STO, BY_FE, BY_NACK,
     BY_SDA, BY_SCL, BY_ILL, BY_RESET, D_REFUSED, D_CUT_OFF, FROM_STA,
-    FROM_TICK, FROM_TRIGGER, ALL_SKIPPED, COUNT_0, TOO_LONG, COUNTERS
+    FROM_TICK, FROM_TRIGGER, ALL_SKIPPED, COUNT_0, TOO_LONG, SKIPPED_FRONT,
+    SKIPPED_BETWEEN, SKIPPED_BEHIND, SKIPPED_ALL, SKIPPED_TOO_LONG,
+    ON_9663, ON_9669, X_KEEPS_9663, X_TO_9669, X_TO_9663, X_KEEPS_9669,
+    PRESET_FMPLUS, PRESET_UFM, CTRLPRESET_9669, BOTH_KINDS, OPEN_BY_30,
+    COUNTERS
 };
 
 static const char *const counter_names[COUNTERS] = {
@@ -78,7 +101,24 @@ static const char *const counter_names[COUNTERS] = {
     [FROM_TRIGGER] = "begun-by-trigger",
     [ALL_SKIPPED] = "all-skipped",
     [COUNT_0] = "count-0",
-    [TOO_LONG] = "too-long"
+    [TOO_LONG] = "too-long",
+    /* of UFm channels: with a length above 0 */
+    [SKIPPED_FRONT] = "UFm-skipped-in-front",
+    [SKIPPED_BETWEEN] = "UFm-skipped-between",
+    [SKIPPED_BEHIND] = "UFm-skipped-behind",
+    [SKIPPED_ALL] = "UFm-all-skipped",
+    [SKIPPED_TOO_LONG] = "UFm-too-long-by-skipped",
+    [ON_9663] = "PCA9663-steps",
+    [ON_9669] = "PCU9669-steps",
+    [X_KEEPS_9663] = "PCA9663-X",
+    [X_TO_9669] = "PCA9663-X-9669",
+    [X_TO_9663] = "PCU9669-X",
+    [X_KEEPS_9669] = "PCU9669-X-9669",
+    [PRESET_FMPLUS] = "PCU9669-PRESET-of-channel-0",
+    [PRESET_UFM] = "PCU9669-PRESET-of-UFm",
+    [CTRLPRESET_9669] = "PCU9669-CTRLPRESET",
+    [BOTH_KINDS] = "PCU9669-frames-of-both-kinds-run",
+    [OPEN_BY_30] = "UFm-pending-with-INTMSK-30h"
 };
 
 static unsigned long seen[COUNTERS];
@@ -119,11 +159,25 @@ static const char *const key_names[OF_PRESET] = {
 
 static unsigned long preset_seen[OF_PRESET], ctrlpreset_seen[OF_CTRLPRESET];
 
+/* Events by the channel's kind: answered 0; no. 7; and of these, the ones that
+ * a channel of the other kind would have taken */
+enum { EVENTS = E_SENT + 1 };
+
+static const char *const event_names[EVENTS] = {
+    [E_ACK] = "ACK", [E_NACK] = "NACK", [E_BYTE] = "BYTE", [E_TICK] = "TICK",
+    [E_STOP] = "STOP", [E_SDA] = "SDA", [E_SCL] = "SCL", [E_ILL] = "ILL",
+    [E_SENT] = "SENT"
+};
+
+static unsigned long answered_seen[2][EVENTS], refused_seen[2][EVENTS],
+    for_kind_seen[2][EVENTS];
+
 /* A flag beside its mask bit, as the data sheet's tables have them. */
 struct row {
     const char *name;
     uint8_t flag, mask;         /* mask 0: there is none */
     uint8_t with;               /* a flag that it never comes without */
+    uint8_t fmplus;             /* no flag of UFm, and no mask bit there */
 };
 
 enum { CHANNEL_ROWS = 8, ROWS = 12 };
@@ -131,25 +185,58 @@ enum { CHANNEL_ROWS = 8, ROWS = 12 };
 static const struct row rows[ROWS] = {
     /* Table 8, CHSTATUS, beside Table 10, INTMSK. "Some of these status bits
      * are error codes that cannot be masked (NMI) by the INTMSK register" */
-    { "SD",  0x80, 0x80, 0 },           /* SDMSK */
-    { "FLD", 0x40, 0x40, 0x80 },        /* FLDMSK; "FLD joins SD" */
-    { "WE",  0x20, 0x20, 0 },           /* WEMSK */
-    { "RE",  0x10, 0x10, 0 },           /* REMSK */
-    { "DAE", 0x08, 0, 0 },
-    { "CLE", 0x04, 0, 0 },
-    { "SSE", 0x02, 0, 0 },
-    { "FE",  0x01, 0x01, 0 },           /* FEMSK */
+    { "SD",  0x80, 0x80, 0, 0 },        /* SDMSK */
+    { "FLD", 0x40, 0x40, 0x80, 0 },     /* FLDMSK; "FLD joins SD" */
+    { "WE",  0x20, 0x20, 0, 1 },        /* WEMSK */
+    { "RE",  0x10, 0x10, 0, 1 },        /* REMSK */
+    { "DAE", 0x08, 0, 0, 1 },
+    { "CLE", 0x04, 0, 0, 1 },
+    { "SSE", 0x02, 0, 0, 0 },
+    { "FE",  0x01, 0x01, 0, 0 },        /* FEMSK */
     /* Table 30, CTRLSTATUS, beside Table 31, CTRLINTMSK */
-    { "BE",        0x80, 0x80, 0 },     /* BEMSK */
-    { "channel-2", 0x04, 0x04, 0 },     /* CH2MSK */
-    { "channel-1", 0x02, 0x02, 0 },     /* CH1MSK */
-    { "channel-0", 0x01, 0x01, 0 }      /* CH0MSK */
+    { "BE",        0x80, 0x80, 0, 0 },  /* BEMSK */
+    { "channel-2", 0x04, 0x04, 0, 0 },  /* CH2MSK */
+    { "channel-1", 0x02, 0x02, 0, 0 },  /* CH1MSK */
+    { "channel-0", 0x01, 0x01, 0, 0 }   /* CH0MSK */
 };
 
 /* The flag is set alone, and no other mask bit could be taken for its own: all
  * others are 1 and its own is 0, or its own is 1 and all others are 0. Where
  * it never comes alone, the other flag's bit is 1 both times. */
-static unsigned long open_seen[ROWS], masked_seen[ROWS];
+static unsigned long open_seen[2][ROWS], masked_seen[2][ROWS];
+
+static const char *const kind_names[2] = { "", "UFm-" };
+
+static void print_rows_seen(int ufm)
+{
+    for (unsigned i = 0; i < (ufm ? CHANNEL_ROWS : ROWS); i++) {
+        if (ufm && rows[i].fmplus)
+            continue;
+        fprintf(stderr, "seen %s%s-alone-open %lu\n", kind_names[ufm],
+                rows[i].name, open_seen[ufm][i]);
+        if (rows[i].mask)
+            fprintf(stderr, "seen %s%s-alone-masked %lu\n", kind_names[ufm],
+                    rows[i].name, masked_seen[ufm][i]);
+    }
+}
+
+/* BYTE has no place where the other kind awaits it: a UFm channel never
+ * receives. ILL is never refused. */
+static void print_events_seen(int ufm)
+{
+    for (unsigned e = 0; e < EVENTS; e++) {
+        int other = of_other_kind(ufm) >> e & 1;
+        if (!other)
+            fprintf(stderr, "seen %s%s-answered %lu\n", kind_names[ufm],
+                    event_names[e], answered_seen[ufm][e]);
+        if (e != E_ILL)
+            fprintf(stderr, "seen %s%s-refused %lu\n", kind_names[ufm],
+                    event_names[e], refused_seen[ufm][e]);
+        if (other && e != E_BYTE)
+            fprintf(stderr, "seen %s%s-refused-for-its-kind %lu\n",
+                    kind_names[ufm], event_names[e], for_kind_seen[ufm][e]);
+    }
+}
 
 static void print_seen(void)
 {
@@ -160,12 +247,9 @@ static void print_seen(void)
     for (unsigned i = 0; i < OF_CTRLPRESET; i++)
         fprintf(stderr, "seen CTRLPRESET-%s %lu\n", key_names[i],
                 ctrlpreset_seen[i]);
-    for (unsigned i = 0; i < ROWS; i++) {
-        fprintf(stderr, "seen %s-alone-open %lu\n", rows[i].name,
-                open_seen[i]);
-        if (rows[i].mask)
-            fprintf(stderr, "seen %s-alone-masked %lu\n", rows[i].name,
-                    masked_seen[i]);
+    for (int ufm = 0; ufm < 2; ufm++) {
+        print_rows_seen(ufm);
+        print_events_seen(ufm);
     }
 }
 
@@ -189,15 +273,34 @@ static unsigned logged_sum(const uint8_t *tranconfig, unsigned n)
     return sum;
 }
 
-/* "A read of length 0 is skipped as done."
+/* "A read of length 0 is skipped as done." On UFm "a transaction whose SLATABLE
+ *  bit 0 is 1 is skipped as done".
  * The first from log->next on that isn't, or the count */
 static unsigned logged_walk(const struct logger *log)
 {
     unsigned t = log->next;
     while (t < log->tranconfig[0] && logged_read(log, t)
-           && logged_length(log, t) == 0)
+           && (log->ufm || logged_length(log, t) == 0))
         t++;
     return t;
+}
+
+/* The walk passes those from log->next up to t. */
+static void count_skipped(const struct logger *log, unsigned t,
+                          unsigned counter)
+{
+    seen[counter] += logged_sum(log->tranconfig, t)
+        > logged_sum(log->tranconfig, log->next);
+}
+
+/* Whether the first n fit, but for the lengths of those with bit 0 set */
+static int sent_ones_fit(const struct sight *s, unsigned n)
+{
+    unsigned sum = 0;
+    for (unsigned t = 0; t < n; t++)
+        if (!(s->slatable[t] & 1))
+            sum += s->tranconfig[1 + t];
+    return sum <= BUFFER;
 }
 
 /* ---- The frame on the wires -------------------------------------------- */
@@ -212,9 +315,11 @@ static const char *log_begin(struct logger *log, const struct sight *s)
     /* 'The frame' is the last one that did begin: these leave it. */
     if (n == 0 || sum > BUFFER) {
         seen[n == 0 ? COUNT_0 : TOO_LONG]++;
+        seen[SKIPPED_TOO_LONG] += n > 0 && s->ufm && sent_ones_fit(s, n);
         return NULL;
     }
     memset(log, 0, sizeof *log);
+    log->ufm = s->ufm;
     memcpy(log->slatable, s->slatable, sizeof log->slatable);
     memcpy(log->tranconfig, s->tranconfig, sizeof log->tranconfig);
     memcpy(log->buffer, s->buffer, sizeof log->buffer);
@@ -223,6 +328,7 @@ static const char *log_begin(struct logger *log, const struct sight *s)
     /* A frame of skipped transactions only takes 0 events. */
     if (logged_walk(log) == n) {
         seen[ALL_SKIPPED]++;
+        count_skipped(log, n, SKIPPED_ALL);
         return NULL;
     }
     log->running = 1;
@@ -237,6 +343,7 @@ static const char *log_start(struct logger *log, struct action act)
     unsigned t = logged_walk(log);
     if (t == log->tranconfig[0] || act.byte != log->slatable[t])
         return "action";
+    count_skipped(log, t, log->next == 0 ? SKIPPED_FRONT : SKIPPED_BETWEEN);
     log->next = t + 1;
     log->start = logged_sum(log->tranconfig, t);
     log->sent = 0;
@@ -271,6 +378,8 @@ static void log_stop(struct logger *log, const struct sight *s)
         log->why = BY_FE;
     else if (more && (s->control & STO))
         log->why = BY_STO;
+    else if (!log->late && !(s->control & STO))
+        count_skipped(log, log->tranconfig[0], SKIPPED_BEHIND);
 }
 
 static const char *log_action(struct logger *log, const struct sight *s)
@@ -278,6 +387,10 @@ static const char *log_action(struct logger *log, const struct sight *s)
     /* S in the step that begins the frame, and only there; none outside */
     if ((log->running && log->next == 0) != (s->act.kind == A_S)
         || (!log->running && s->act.kind != A_NONE))
+        return "action";
+    /* "they only send" */
+    if (log->ufm && (s->act.kind == A_C || s->act.kind == A_A
+                     || s->act.kind == A_NP || s->act.kind == A_NR))
         return "action";
     switch (s->act.kind) {
     case A_S: case A_R: case A_NR:
@@ -320,17 +433,19 @@ static void log_fault(struct logger *log, unsigned counter)
 static const char *log_event(struct logger *log, const struct sight *s)
 {
     unsigned t = log->next - 1;
+    if (s->told & of_other_kind(s->ufm))
+        return "kind";
     if (!log->running)
         return s->told & COUNTED ? "bound" : NULL;
     if (s->told & COUNTED)
         log->spent++;
-    if (s->told & TOLD(E_ACK) && log->out)
+    if (s->told & ACKNOWLEDGED && log->out)
         log->count[t]++;
     if (s->told & TOLD(E_BYTE))
         log->count[t]++;
     if (s->told & TOLD(E_NACK))
         seen[D_REFUSED] += log->out;
-    if (s->told & (TOLD(E_ACK) | TOLD(E_NACK)))
+    if (s->told & (ACKNOWLEDGED | TOLD(E_NACK)))
         log->out = 0;
     if (s->told & TOLD(E_STOP))
         log_end(log);
@@ -348,10 +463,30 @@ static const char *log_event(struct logger *log, const struct sight *s)
     return NULL;
 }
 
+/* On UFm "STATUS uses only its two low bits", and no event is left that sets
+ * WE, RE, DAE or CLE. */
+static int flags_of_ufm(const struct sight *s)
+{
+    unsigned statuses = 0;
+    for (unsigned t = 0; t < ENTRIES; t++)
+        statuses |= s->status[t];
+    return !(statuses & ~3u) && !(s->chstatus & (WE | RE | DAE | CLE));
+}
+
+static void count_events(const struct sight *s)
+{
+    for (unsigned e = 0; e < EVENTS; e++) {
+        answered_seen[s->ufm][e] += (s->told & TOLD(e)) != 0;
+        refused_seen[s->ufm][e] += (s->told & REFUSED(e)) != 0;
+        for_kind_seen[s->ufm][e] += (s->for_kind & TOLD(e)) != 0;
+    }
+}
+
 /* A step: the rule that is broken, or NULL */
 static const char *log_step(struct logger *log, const struct sight *s)
 {
     const char *broken = log_event(log, s);
+    count_events(s);
     if (s->told & TOLD_RESET)
         memset(log, 0, sizeof *log);
     if (broken == NULL && s->told & TOLD_BEGIN)
@@ -360,6 +495,8 @@ static const char *log_step(struct logger *log, const struct sight *s)
         broken = log_action(log, s);
     if (broken == NULL && log->spent > log->bound)
         broken = "bound";
+    if (broken == NULL && s->ufm && !flags_of_ufm(s))
+        broken = "kind";
     if (broken == NULL
         && memcmp(log->count, s->bytecount, sizeof log->count) != 0)
         broken = "count";
@@ -373,9 +510,11 @@ struct line {
     char kind;
     uint8_t address, value;     /* of a write */
     uint8_t refused;
+    uint8_t number;             /* of an X: 9669 follows */
 };
 
 struct bus {
+    uint8_t ultra;              /* the last X was `X 9669` */
     uint8_t pending;            /* where the last write was A5h, or 0 */
     unsigned over;              /* the counters that its 5Ah moves, bitwise */
     uint8_t lost[256];          /* the counter, by the address of the key */
@@ -421,15 +560,31 @@ static unsigned lost_to(unsigned pending, const struct line *l)
     return l->refused ? TO_REFUSED : TO_CHANNEL;
 }
 
-/* A whole key, and what it resets */
+/* "Channels 1 and 2 are Ultra Fast-mode" on a PCU9669. */
+static uint8_t log_ufm(const struct bus *bus, unsigned c)
+{
+    return bus->ultra && c != 0;
+}
+
+/* The whole part is reset: no key is pending or lost. */
+static unsigned log_reset(struct bus *bus, int ultra)
+{
+    memset(bus, 0, sizeof *bus);
+    bus->ultra = (uint8_t)ultra;
+    return (1u << CHANNELS) - 1;
+}
+
+/* A whole key, and what it resets. "The part is chosen at hardware reset and
+ *  kept by other resets." */
 static unsigned log_key(struct bus *bus, unsigned address)
 {
+    unsigned c = channel_at(address);
     for (unsigned i = 0; i < OF_CTRLPRESET; i++)
         key_seen(address)[i] += bus->over >> i & 1;
-    if (address != R_CTRLPRESET)
-        return 1u << channel_at(address);
-    memset(bus, 0, sizeof *bus);
-    return (1u << CHANNELS) - 1;
+    if (bus->ultra)
+        seen[address == R_CTRLPRESET ? CTRLPRESET_9669
+             : log_ufm(bus, c) ? PRESET_UFM : PRESET_FMPLUS]++;
+    return address == R_CTRLPRESET ? log_reset(bus, bus->ultra) : 1u << c;
 }
 
 /* "The sheet speaks of two consecutive parallel bus writes." So 5Ah resets
@@ -458,14 +613,16 @@ static unsigned log_write(struct bus *bus, const struct line *l)
 /* The channels that the line has to reset: bit c for channel c */
 static unsigned log_line(struct bus *bus, const struct line *l)
 {
-    unsigned before = bus->pending;
+    unsigned before = bus->pending, due;
     switch (l->kind) {
     case 'W':
         return log_write(bus, l);
     case 'X':
-        memset(bus, 0, sizeof *bus);
+        seen[bus->ultra ? l->number ? X_KEEPS_9669 : X_TO_9663
+                        : l->number ? X_TO_9669 : X_KEEPS_9663]++;
+        due = log_reset(bus, l->number);
         bus->lost[before] = TO_X;
-        return (1u << CHANNELS) - 1;
+        return due;
     /* Reads, events, triggers and unreadable lines forget nothing. */
     case 'R': bus->over |= 1u << OVER_READ; break;
     case 'E': bus->over |= 1u << OVER_EVENT; break;
@@ -475,27 +632,38 @@ static unsigned log_line(struct bus *bus, const struct line *l)
     return 0;
 }
 
+/* After a step */
+static void log_part(const struct bus *bus, const struct logger *logs)
+{
+    seen[bus->ultra ? ON_9669 : ON_9663]++;
+    seen[BOTH_KINDS] += bus->ultra && logs[0].running
+        && (logs[1].running || logs[2].running);
+}
+
 /* ---- The masks, row by row --------------------------------------------- */
 
 /* What it sees after a step: what a read of each would give */
 struct levels {
     uint8_t chstatus[CHANNELS], intmsk[CHANNELS];
+    uint8_t ufm[CHANNELS];      /* by the logger on the bus */
     uint8_t ctrlstatus, ctrlintmsk;
 };
 
 /* A row is open where its flag is set and its mask bit is 0 or isn't there. */
-static int some_open(unsigned from, unsigned to, unsigned flags,
+static int some_open(unsigned from, unsigned to, int ufm, unsigned flags,
                      unsigned masks)
 {
-    for (unsigned i = from; i < to; i++)
-        if (flags & rows[i].flag && !(masks & rows[i].mask))
+    for (unsigned i = from; i < to; i++) {
+        unsigned mask = ufm && rows[i].fmplus ? 0 : rows[i].mask;
+        if (flags & rows[i].flag && !(masks & mask))
             return 1;
+    }
     return 0;
 }
 
 /* The counter of these flags and masks, or NULL */
-static unsigned long *row_seen(unsigned from, unsigned to, unsigned flags,
-                               unsigned masks)
+static unsigned long *row_seen(unsigned from, unsigned to, int ufm,
+                               unsigned flags, unsigned masks)
 {
     unsigned all_flags = 0, all_masks = 0;
     for (unsigned i = from; i < to; i++) {
@@ -507,9 +675,9 @@ static unsigned long *row_seen(unsigned from, unsigned to, unsigned flags,
         if ((flags & all_flags) != (unsigned)(r->flag | r->with))
             continue;
         if (masks == (all_masks & ~r->mask))
-            return &open_seen[i];
+            return &open_seen[ufm][i];
         if (r->mask && masks == (unsigned)(r->mask | r->with))
-            return &masked_seen[i];
+            return &masked_seen[ufm][i];
     }
     return NULL;
 }
@@ -523,15 +691,28 @@ static void count_row(unsigned of, unsigned long *now)
     before[of] = now;
 }
 
+/* "INTMSK bits 5 and 4 have no effect": with these two alone every flag is
+ * open. */
+static void count_30(const struct levels *l, unsigned c)
+{
+    static uint8_t before[CHANNELS];
+    uint8_t now = l->ufm[c] && l->chstatus[c] && l->intmsk[c] == 0x30;
+    seen[OPEN_BY_30] += now && !before[c];
+    before[c] = now;
+}
+
 /* "channel pending (some CHSTATUS bit set whose INTMSK bit is 0)"
  * Counted where INT hangs on this channel alone. */
 static int log_pending(const struct levels *l, unsigned c)
 {
     unsigned flags = l->chstatus[c], masks = l->intmsk[c], bit = 1u << c;
     int hangs = !(l->ctrlintmsk & bit)
-        && !some_open(CHANNEL_ROWS, ROWS, l->ctrlstatus & ~bit, l->ctrlintmsk);
-    count_row(c, hangs ? row_seen(0, CHANNEL_ROWS, flags, masks) : NULL);
-    return some_open(0, CHANNEL_ROWS, flags, masks);
+        && !some_open(CHANNEL_ROWS, ROWS, 0, l->ctrlstatus & ~bit,
+                      l->ctrlintmsk);
+    count_30(l, c);
+    count_row(c, hangs ? row_seen(0, CHANNEL_ROWS, l->ufm[c], flags, masks)
+                       : NULL);
+    return some_open(0, CHANNEL_ROWS, l->ufm[c], flags, masks);
 }
 
 /* "INT is pulled exactly when BE is set and bit 7 of CTRLINTMSK is 0, or a
@@ -539,6 +720,6 @@ static int log_pending(const struct levels *l, unsigned c)
 static int log_int(const struct levels *l)
 {
     unsigned flags = l->ctrlstatus, masks = l->ctrlintmsk;
-    count_row(CHANNELS, row_seen(CHANNEL_ROWS, ROWS, flags, masks));
-    return some_open(CHANNEL_ROWS, ROWS, flags, masks);
+    count_row(CHANNELS, row_seen(CHANNEL_ROWS, ROWS, 0, flags, masks));
+    return some_open(CHANNEL_ROWS, ROWS, 0, flags, masks);
 }
