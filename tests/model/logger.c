@@ -70,14 +70,14 @@ struct logger {
 
 /* ---- Counters ---------------------------------------------------------- */
 
+/* Frames, by the channel's kind. */
 enum {
-    ENDED, EXACT, EXACT_64, EXACT_4352, OF_64, OF_4352, BY_STO, BY_FE, BY_NACK,
-    BY_SDA, BY_SCL, BY_ILL, BY_RESET, D_REFUSED, D_CUT_OFF, FROM_STA,
-    FROM_TICK, FROM_TRIGGER, ALL_SKIPPED, COUNT_0, TOO_LONG, SKIPPED_FRONT,
-    SKIPPED_BETWEEN, SKIPPED_BEHIND, SKIPPED_ALL, SKIPPED_TOO_LONG,
-    ON_9663, ON_9669, X_KEEPS_9663, X_TO_9669, X_TO_9663, X_KEEPS_9669,
-    PRESET_FMPLUS, PRESET_UFM, CTRLPRESET_9669, BOTH_KINDS, OPEN_BY_30,
-    COUNTERS
+    ENDED, EXACT, EXACT_64, EXACT_4352, OF_64, OF_4352, BY_STO, BY_FE, BY_ILL,
+    BY_RESET, D_CUT_OFF, FROM_STA, FROM_TICK, FROM_TRIGGER, ALL_SKIPPED,
+    COUNT_0, TOO_LONG,
+    FMPLUS_ONLY, BY_NACK = FMPLUS_ONLY, BY_SDA, BY_SCL, D_REFUSED,
+    UFM_ONLY, SKIPPED_FRONT = UFM_ONLY, SKIPPED_BETWEEN, SKIPPED_BEHIND,
+    SKIPPED_ALL, SKIPPED_TOO_LONG, COUNTERS
 };
 
 static const char *const counter_names[COUNTERS] = {
@@ -89,12 +89,8 @@ static const char *const counter_names[COUNTERS] = {
     [OF_4352] = "of-4352",
     [BY_STO] = "cut-by-STO",
     [BY_FE] = "cut-by-FE",
-    [BY_NACK] = "ended-by-NACK",
-    [BY_SDA] = "ended-by-SDA",
-    [BY_SCL] = "ended-by-SCL",
     [BY_ILL] = "ended-by-ILL",
     [BY_RESET] = "ended-by-reset",
-    [D_REFUSED] = "D-refused",
     [D_CUT_OFF] = "D-cut-off",
     [FROM_STA] = "begun-by-STA",
     [FROM_TICK] = "begun-by-TICK",
@@ -102,12 +98,33 @@ static const char *const counter_names[COUNTERS] = {
     [ALL_SKIPPED] = "all-skipped",
     [COUNT_0] = "count-0",
     [TOO_LONG] = "too-long",
-    /* of UFm channels: with a length above 0 */
-    [SKIPPED_FRONT] = "UFm-skipped-in-front",
-    [SKIPPED_BETWEEN] = "UFm-skipped-between",
-    [SKIPPED_BEHIND] = "UFm-skipped-behind",
-    [SKIPPED_ALL] = "UFm-all-skipped",
-    [SKIPPED_TOO_LONG] = "UFm-too-long-by-skipped",
+    [BY_NACK] = "ended-by-NACK",
+    [BY_SDA] = "ended-by-SDA",
+    [BY_SCL] = "ended-by-SCL",
+    [D_REFUSED] = "D-refused",
+    /* with a length above 0 */
+    [SKIPPED_FRONT] = "skipped-in-front",
+    [SKIPPED_BETWEEN] = "skipped-between",
+    [SKIPPED_BEHIND] = "skipped-behind",
+    [SKIPPED_ALL] = "skipped-all",
+    [SKIPPED_TOO_LONG] = "too-long-by-skipped"
+};
+
+static unsigned long seen[2][COUNTERS];
+
+static int comes_on(unsigned counter, int ufm)
+{
+    return counter < FMPLUS_ONLY || (counter >= UFM_ONLY) == ufm;
+}
+
+/* The part, and what chose, kept or reset it */
+enum {
+    ON_9663, ON_9669, X_KEEPS_9663, X_TO_9669, X_TO_9663, X_KEEPS_9669,
+    PRESET_FMPLUS, PRESET_UFM, CTRLPRESET_9669, BOTH_KINDS, OPEN_BY_30,
+    PART_COUNTERS
+};
+
+static const char *const part_names[PART_COUNTERS] = {
     [ON_9663] = "PCA9663-steps",
     [ON_9669] = "PCU9669-steps",
     [X_KEEPS_9663] = "PCA9663-X",
@@ -121,7 +138,7 @@ static const char *const counter_names[COUNTERS] = {
     [OPEN_BY_30] = "UFm-pending-with-INTMSK-30h"
 };
 
-static unsigned long seen[COUNTERS];
+static unsigned long part_seen[PART_COUNTERS];
 
 /* The reset keys: what one was kept over counts where it resets, what it was
  * lost to counts where its 5Ah comes and does nothing. The last four are of
@@ -205,52 +222,63 @@ static const struct row rows[ROWS] = {
  * it never comes alone, the other flag's bit is 1 both times. */
 static unsigned long open_seen[2][ROWS], masked_seen[2][ROWS];
 
-static const char *const kind_names[2] = { "", "UFm-" };
+static void print_one(const char *of, const char *name, const char *how,
+                      unsigned long n)
+{
+    fprintf(stderr, "seen %s%s%s %lu\n", of, name, how, n);
+}
 
-static void print_rows_seen(int ufm)
+static void print_frames_seen(const char *of, int ufm)
+{
+    for (unsigned i = 0; i < COUNTERS; i++)
+        if (comes_on(i, ufm))
+            print_one(of, counter_names[i], "", seen[ufm][i]);
+}
+
+static void print_rows_seen(const char *of, int ufm)
 {
     for (unsigned i = 0; i < (ufm ? CHANNEL_ROWS : ROWS); i++) {
         if (ufm && rows[i].fmplus)
             continue;
-        fprintf(stderr, "seen %s%s-alone-open %lu\n", kind_names[ufm],
-                rows[i].name, open_seen[ufm][i]);
+        print_one(of, rows[i].name, "-alone-open", open_seen[ufm][i]);
         if (rows[i].mask)
-            fprintf(stderr, "seen %s%s-alone-masked %lu\n", kind_names[ufm],
-                    rows[i].name, masked_seen[ufm][i]);
+            print_one(of, rows[i].name, "-alone-masked", masked_seen[ufm][i]);
     }
 }
 
-/* BYTE has no place where the other kind awaits it: a UFm channel never
- * receives. ILL is never refused. */
-static void print_events_seen(int ufm)
+/* ILL is never refused. BYTE has no place where the other kind awaits it, since
+ * a UFm channel never receives. */
+static void print_events_seen(const char *of, int ufm)
 {
     for (unsigned e = 0; e < EVENTS; e++) {
         int other = of_other_kind(ufm) >> e & 1;
         if (!other)
-            fprintf(stderr, "seen %s%s-answered %lu\n", kind_names[ufm],
-                    event_names[e], answered_seen[ufm][e]);
+            print_one(of, event_names[e], "-answered", answered_seen[ufm][e]);
         if (e != E_ILL)
-            fprintf(stderr, "seen %s%s-refused %lu\n", kind_names[ufm],
-                    event_names[e], refused_seen[ufm][e]);
+            print_one(of, event_names[e], "-refused", refused_seen[ufm][e]);
         if (other && e != E_BYTE)
-            fprintf(stderr, "seen %s%s-refused-for-its-kind %lu\n",
-                    kind_names[ufm], event_names[e], for_kind_seen[ufm][e]);
+            print_one(of, event_names[e], "-refused-for-its-kind",
+                      for_kind_seen[ufm][e]);
     }
+}
+
+static void print_kind_seen(const char *of, int ufm)
+{
+    print_frames_seen(of, ufm);
+    print_rows_seen(of, ufm);
+    print_events_seen(of, ufm);
 }
 
 static void print_seen(void)
 {
-    for (unsigned i = 0; i < COUNTERS; i++)
-        fprintf(stderr, "seen %s %lu\n", counter_names[i], seen[i]);
+    for (unsigned i = 0; i < PART_COUNTERS; i++)
+        print_one("", part_names[i], "", part_seen[i]);
     for (unsigned i = 0; i < OF_PRESET; i++)
-        fprintf(stderr, "seen PRESET-%s %lu\n", key_names[i], preset_seen[i]);
+        print_one("PRESET-", key_names[i], "", preset_seen[i]);
     for (unsigned i = 0; i < OF_CTRLPRESET; i++)
-        fprintf(stderr, "seen CTRLPRESET-%s %lu\n", key_names[i],
-                ctrlpreset_seen[i]);
-    for (int ufm = 0; ufm < 2; ufm++) {
-        print_rows_seen(ufm);
-        print_events_seen(ufm);
-    }
+        print_one("CTRLPRESET-", key_names[i], "", ctrlpreset_seen[i]);
+    print_kind_seen("", 0);
+    print_kind_seen("UFm-", 1);
 }
 
 /* ---- The tables -------------------------------------------------------- */
@@ -289,7 +317,7 @@ static unsigned logged_walk(const struct logger *log)
 static void count_skipped(const struct logger *log, unsigned t,
                           unsigned counter)
 {
-    seen[counter] += logged_sum(log->tranconfig, t)
+    seen[log->ufm][counter] += logged_sum(log->tranconfig, t)
         > logged_sum(log->tranconfig, log->next);
 }
 
@@ -314,8 +342,8 @@ static const char *log_begin(struct logger *log, const struct sight *s)
         return "action";
     /* 'The frame' is the last one that did begin: these leave it. */
     if (n == 0 || sum > BUFFER) {
-        seen[n == 0 ? COUNT_0 : TOO_LONG]++;
-        seen[SKIPPED_TOO_LONG] += n > 0 && s->ufm && sent_ones_fit(s, n);
+        seen[s->ufm][n == 0 ? COUNT_0 : TOO_LONG]++;
+        seen[s->ufm][SKIPPED_TOO_LONG] += n > 0 && sent_ones_fit(s, n);
         return NULL;
     }
     memset(log, 0, sizeof *log);
@@ -323,11 +351,11 @@ static const char *log_begin(struct logger *log, const struct sight *s)
     memcpy(log->slatable, s->slatable, sizeof log->slatable);
     memcpy(log->tranconfig, s->tranconfig, sizeof log->tranconfig);
     memcpy(log->buffer, s->buffer, sizeof log->buffer);
-    seen[s->told & TOLD(E_TICK) ? FROM_TICK
-         : s->told & TOLD_EDGE ? FROM_TRIGGER : FROM_STA]++;
+    seen[s->ufm][s->told & TOLD(E_TICK) ? FROM_TICK
+                 : s->told & TOLD_EDGE ? FROM_TRIGGER : FROM_STA]++;
     /* A frame of skipped transactions only takes 0 events. */
     if (logged_walk(log) == n) {
-        seen[ALL_SKIPPED]++;
+        seen[log->ufm][ALL_SKIPPED]++;
         count_skipped(log, n, SKIPPED_ALL);
         return NULL;
     }
@@ -410,22 +438,22 @@ static void log_end(struct logger *log)
     int exact = log->spent == log->bound;
     int full = logged_sum(log->tranconfig, n) == BUFFER;
     log->running = 0;
-    seen[ENDED]++;
-    seen[EXACT] += exact;
-    seen[OF_64] += n == ENTRIES;
-    seen[OF_4352] += full;
-    seen[EXACT_64] += exact && n == ENTRIES;
-    seen[EXACT_4352] += exact && full;
+    seen[log->ufm][ENDED]++;
+    seen[log->ufm][EXACT] += exact;
+    seen[log->ufm][OF_64] += n == ENTRIES;
+    seen[log->ufm][OF_4352] += full;
+    seen[log->ufm][EXACT_64] += exact && n == ENTRIES;
+    seen[log->ufm][EXACT_4352] += exact && full;
     if (log->why)
-        seen[log->why]++;
+        seen[log->ufm][log->why]++;
 }
 
 /* SDA, SCL, ILL or a reset */
 static void log_fault(struct logger *log, unsigned counter)
 {
     log->running = 0;
-    seen[counter]++;
-    seen[D_CUT_OFF] += log->out;
+    seen[log->ufm][counter]++;
+    seen[log->ufm][D_CUT_OFF] += log->out;
 }
 
 /* "each BYTECOUNT equals the number of data bytes acknowledged or received for
@@ -444,7 +472,7 @@ static const char *log_event(struct logger *log, const struct sight *s)
     if (s->told & TOLD(E_BYTE))
         log->count[t]++;
     if (s->told & TOLD(E_NACK))
-        seen[D_REFUSED] += log->out;
+        seen[log->ufm][D_REFUSED] += log->out;
     if (s->told & (ACKNOWLEDGED | TOLD(E_NACK)))
         log->out = 0;
     if (s->told & TOLD(E_STOP))
@@ -582,7 +610,7 @@ static unsigned log_key(struct bus *bus, unsigned address)
     for (unsigned i = 0; i < OF_CTRLPRESET; i++)
         key_seen(address)[i] += bus->over >> i & 1;
     if (bus->ultra)
-        seen[address == R_CTRLPRESET ? CTRLPRESET_9669
+        part_seen[address == R_CTRLPRESET ? CTRLPRESET_9669
              : log_ufm(bus, c) ? PRESET_UFM : PRESET_FMPLUS]++;
     return address == R_CTRLPRESET ? log_reset(bus, bus->ultra) : 1u << c;
 }
@@ -618,7 +646,7 @@ static unsigned log_line(struct bus *bus, const struct line *l)
     case 'W':
         return log_write(bus, l);
     case 'X':
-        seen[bus->ultra ? l->number ? X_KEEPS_9669 : X_TO_9663
+        part_seen[bus->ultra ? l->number ? X_KEEPS_9669 : X_TO_9663
                         : l->number ? X_TO_9669 : X_KEEPS_9663]++;
         due = log_reset(bus, l->number);
         bus->lost[before] = TO_X;
@@ -635,8 +663,8 @@ static unsigned log_line(struct bus *bus, const struct line *l)
 /* After a step */
 static void log_part(const struct bus *bus, const struct logger *logs)
 {
-    seen[bus->ultra ? ON_9669 : ON_9663]++;
-    seen[BOTH_KINDS] += bus->ultra && logs[0].running
+    part_seen[bus->ultra ? ON_9669 : ON_9663]++;
+    part_seen[BOTH_KINDS] += bus->ultra && logs[0].running
         && (logs[1].running || logs[2].running);
 }
 
@@ -697,7 +725,7 @@ static void count_30(const struct levels *l, unsigned c)
 {
     static uint8_t before[CHANNELS];
     uint8_t now = l->ufm[c] && l->chstatus[c] && l->intmsk[c] == 0x30;
-    seen[OPEN_BY_30] += now && !before[c];
+    part_seen[OPEN_BY_30] += now && !before[c];
     before[c] = now;
 }
 
