@@ -439,7 +439,7 @@ static void plan_skips(unsigned c)
 {
     struct plan *pl = &plans[c];
     int all = one_in(3);
-    fill(pl, between(1, 8), one_in(8) ? 255 : 2);
+    fill(pl, between(1, 8), is_ufm(c) && one_in(8) ? 255 : 2);
     for (unsigned t = 0; t < pl->n; t++)
         if (all || !one_in(3))
             skip(pl, t);

@@ -49,7 +49,9 @@ struct sight {
     struct action act;
     const uint8_t *slatable, *tranconfig, *bytecount, *status, *buffer;
     uint8_t ufm;                /* by the logger on the bus */
-    uint8_t control, chstatus, intmsk;
+    uint8_t chstatus;
+    /* for the counters only */
+    uint8_t control, intmsk;
     unsigned for_kind;          /* refused, and the other kind takes it */
 };
 
@@ -70,7 +72,7 @@ struct logger {
 
 /* ---- Counters ---------------------------------------------------------- */
 
-/* Frames, by the channel's kind. */
+/* Frames, by the channel's kind */
 enum {
     ENDED, EXACT, EXACT_64, EXACT_4352, OF_64, OF_4352, BY_STO, BY_FE, BY_ILL,
     BY_RESET, D_CUT_OFF, FROM_STA, FROM_TICK, FROM_TRIGGER, ALL_SKIPPED,
@@ -602,8 +604,7 @@ static unsigned log_reset(struct bus *bus, int ultra)
     return (1u << CHANNELS) - 1;
 }
 
-/* A whole key, and what it resets. "The part is chosen at hardware reset and
- *  kept by other resets." */
+/* A whole key, and what it resets; the part is "kept by other resets". */
 static unsigned log_key(struct bus *bus, unsigned address)
 {
     unsigned c = channel_at(address);
@@ -611,7 +612,7 @@ static unsigned log_key(struct bus *bus, unsigned address)
         key_seen(address)[i] += bus->over >> i & 1;
     if (bus->ultra)
         part_seen[address == R_CTRLPRESET ? CTRLPRESET_9669
-             : log_ufm(bus, c) ? PRESET_UFM : PRESET_FMPLUS]++;
+                  : log_ufm(bus, c) ? PRESET_UFM : PRESET_FMPLUS]++;
     return address == R_CTRLPRESET ? log_reset(bus, bus->ultra) : 1u << c;
 }
 
@@ -647,7 +648,7 @@ static unsigned log_line(struct bus *bus, const struct line *l)
         return log_write(bus, l);
     case 'X':
         part_seen[bus->ultra ? l->number ? X_KEEPS_9669 : X_TO_9663
-                        : l->number ? X_TO_9669 : X_KEEPS_9663]++;
+                             : l->number ? X_TO_9669 : X_KEEPS_9663]++;
         due = log_reset(bus, l->number);
         bus->lost[before] = TO_X;
         return due;

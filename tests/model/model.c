@@ -266,8 +266,8 @@ static int is_read(const struct channel *ch, unsigned t)
     return ch->slatable[t] & 1;
 }
 
-/* "A read of length 0 is skipped as done." On a UFm channel "a transaction whose
- *  SLATABLE bit 0 is 1 is skipped as done", whatever its length. */
+/* "A read of length 0 is skipped as done." On a UFm channel "a transaction
+ *  whose SLATABLE bit 0 is 1 is skipped as done", whatever its length. */
 static int is_skipped(const struct channel *ch, unsigned t)
 {
     return is_read(ch, t) && (ch->kind == UFM || length_of(ch, t) == 0);
@@ -1295,8 +1295,8 @@ static void check_wires(struct part *p, const uint8_t *s, size_t n,
         const struct channel *ch = &p->ch[c];
         struct sight sight = {
             ch->told, a->act[c], ch->slatable, ch->tranconfig, ch->bytecount,
-            ch->status, buffer_of(p, c), levels.ufm[c], read_control(ch),
-            ch->chstatus, ch->intmsk, refused_for_kind(ch)
+            ch->status, buffer_of(p, c), levels.ufm[c], ch->chstatus,
+            read_control(ch), ch->intmsk, refused_for_kind(ch)
         };
         const char *broken = log_step(&loggers[c], &sight);
         if (broken == NULL && loggers[c].running && !awaits_counted(ch))
