@@ -161,6 +161,23 @@ static void push_event(unsigned c, const char *name)
     push_event_of(c, c, name);
 }
 
+static int is_ufm(unsigned c)
+{
+    return part.ch[c].kind == UFM;
+}
+
+/* A byte is over: acknowledged, or sent. */
+static void push_ack(unsigned c)
+{
+    push_event(c, is_ufm(c) ? "SENT" : "ACK");
+}
+
+/* The hardware reset, which chooses the part */
+static const char *any_x(void)
+{
+    return one_in(2) ? "X" : "X 9669";
+}
+
 static void push_byte(unsigned c)
 {
     char line[LINE];
@@ -178,13 +195,21 @@ static unsigned sum_of(const struct plan *pl)
     return sum;
 }
 
+static unsigned channel_of(const struct plan *pl)
+{
+    return (unsigned)(pl - plans);
+}
+
+/* On a UFm channel a third has bit 0 set, and is skipped. */
 static void fill(struct plan *pl, unsigned n, unsigned longest)
 {
+    unsigned of_reads = is_ufm(channel_of(pl)) ? 3 : 2;
     pl->n = n;
     for (unsigned t = 0; t < n; t++) {
         pl->len[t] = (uint8_t)between(0, longest);
-        pl->sla[t] = one_in(4) ? (uint8_t)below(256)
-                               : (uint8_t)(0x40 + 2 * below(4) + below(2));
+        pl->sla[t] = (uint8_t)((one_in(4) ? below(256) : 0x40 + 2 * below(4))
+                               & 0xFE);
+        pl->sla[t] |= (uint8_t)one_in(of_reads);
     }
 }
 
@@ -293,12 +318,12 @@ static void push_start(unsigned c)
 /* A transaction to its end */
 static void push_transaction(unsigned c, int read, unsigned length)
 {
-    push_event(c, "ACK");
+    push_ack(c);
     for (unsigned i = 0; i < length; i++)
         if (read)
             push_byte(c);
         else
-            push_event(c, "ACK");
+            push_ack(c);
 }
 
 static void push_status_reads(unsigned c)
@@ -401,21 +426,23 @@ static void plan_small(unsigned c)
     plan_frame(c);
 }
 
-/* Reads of length 0 at the front, between, behind, or only these */
+/* It is skipped: bit 0, and on a Fm+ channel length 0 too */
+static void skip(struct plan *pl, unsigned t)
+{
+    pl->sla[t] |= 1;
+    if (!is_ufm(channel_of(pl)))
+        pl->len[t] = 0;
+}
+
+/* Skipped ones at the front, between, behind, or only these */
 static void plan_skips(unsigned c)
 {
     struct plan *pl = &plans[c];
-    fill(pl, between(1, 8), 2);
+    int all = one_in(3);
+    fill(pl, between(1, 8), is_ufm(c) && one_in(8) ? 255 : 2);
     for (unsigned t = 0; t < pl->n; t++)
-        if (!one_in(3)) {
-            pl->len[t] = 0;
-            pl->sla[t] |= 1;
-        }
-    if (one_in(3))
-        for (unsigned t = 0; t < pl->n; t++) {
-            pl->len[t] = 0;
-            pl->sla[t] |= 1;
-        }
+        if (all || !one_in(3))
+            skip(pl, t);
     plan_frame(c);
 }
 
@@ -424,7 +451,7 @@ static void plan_skips(unsigned c)
 static void skip_none(struct plan *pl)
 {
     for (unsigned t = 0; t < pl->n; t++)
-        if (pl->len[t] == 0)
+        if (pl->len[t] == 0 || is_ufm(channel_of(pl)))
             pl->sla[t] &= 0xFE;
 }
 
@@ -476,8 +503,27 @@ static void plan_grow(unsigned c)
     push_start(c);
 }
 
-/* The buffer's last byte on the wires: all but the last transaction refused,
- * the last one fed to its end. */
+/* What brings the walk to transaction n - 1 with no data byte: on a UFm channel
+ * all before it are skipped, on a Fm+ channel refused. */
+static void skip_to_last(struct plan *pl, unsigned n)
+{
+    if (!is_ufm(channel_of(pl)))
+        return;
+    for (unsigned t = 0; t + 1 < n; t++)
+        skip(pl, t);
+    pl->sla[n - 1] &= 0xFE;
+}
+
+static void push_refusals(unsigned c, unsigned n)
+{
+    if (is_ufm(c))
+        return;
+    for (unsigned t = 0; t + 1 < n; t++)
+        push_event(c, "NACK");
+}
+
+/* The buffer's last byte on the wires: only the last transaction is fed to its
+ * end. */
 static void plan_last(unsigned c)
 {
     struct plan *pl = &plans[c];
@@ -485,6 +531,7 @@ static void plan_last(unsigned c)
     fill(pl, n, 0);
     memset(pl->len, n == 18 ? 255 : 68, sizeof pl->len);
     pl->len[n - 1] = (uint8_t)length;
+    skip_to_last(pl, n);
     pl->te = 0;
     pl->framecnt = 1;
     pl->intmsk = 0x30;
@@ -496,8 +543,7 @@ static void plan_last(unsigned c)
     push_write(c, R_TRANOFS, length - 1);
     push_data(c, 1);
     push_write(c, R_CONTROL, STA);
-    for (unsigned t = 0; t + 1 < n; t++)
-        push_event(c, "NACK");
+    push_refusals(c, n);
     push_read_at(c, 64 * c + n - 1);
     push_transaction(c, pl->sla[n - 1] & 1, length);
     push_read_at(c, 64 * c + n - 1);
@@ -512,8 +558,8 @@ static void plan_last(unsigned c)
 static void plan_frames(unsigned c)
 {
     struct plan *pl = &plans[c];
-    fill(pl, 1, 0);
-    pl->sla[0] |= 1;
+    fill(pl, 1, 3);
+    skip(pl, 0);
     pl->te = 0;
     pl->framecnt = (uint8_t)(one_in(2) ? 255 : between(100, 255));
     pl->again = 0;
@@ -737,15 +783,17 @@ static void push_second_5a(unsigned c)
     push_read(c, R_CHSTATUS);
 }
 
-/* INTMSK and ILL's flag are there before, and read afterwards. */
+/* INTMSK, a setting and ILL's flag are there before, and read afterwards. */
 static void push_reset(unsigned c)
 {
+    unsigned setting = between(R_SCLL, R_MODE);
     push_write(c, R_INTMSK, between(0x10, 0xFF));
+    push_write(c, setting, below(256));
     push_event(c, "ILL");
     switch (below(16)) {
     case 0:
         push_write_at(c, one_in(2) ? R_CTRLPRESET : preset_of(c), 0xA5);
-        push(&plans[c], "X");
+        push(&plans[c], any_x());
         break;
     case 1: case 2: case 3: case 4:
         push_keys(c, R_CTRLPRESET);
@@ -765,6 +813,9 @@ static void push_reset(unsigned c)
         push_second_5a(c);
     push_read(c, R_CHSTATUS);
     push_read(c, R_INTMSK);
+    push_read(c, setting);
+    if (one_in(4))
+        push_read_at(c, R_DEVICE_ID);
 }
 
 static void plan_reset(unsigned c)
@@ -867,7 +918,7 @@ static void push_trigger(unsigned c, int matching)
 static void push_side(unsigned c)
 {
     static const char *const names[] = {
-        "ACK", "NACK", "BYTE 55", "TICK", "STOP", "SDA", "SCL", "ILL"
+        "ACK", "NACK", "SENT", "BYTE 55", "TICK", "STOP", "SDA", "SCL", "ILL"
     };
     switch (below(18)) {
     case 0: case 1:
@@ -900,10 +951,10 @@ static void push_side(unsigned c)
         push_read(c, R_CONTROL);
         break;
     case 9:
-        push_event(c, names[below(5)]);
+        push_event(c, names[below(6)]);
         break;
     case 10:
-        push_event(c, names[below(8)]);
+        push_event(c, names[below(9)]);
         break;
     case 11:
         push_read(c, below(16));
@@ -1010,6 +1061,22 @@ static void feed_whole(unsigned c)
     plans[c].together = 1;
 }
 
+/* The clock after a byte: refused at the plan's rate, or a fault; on a UFm
+ * channel events of the other kind stand for the refusal, and only ILL is a
+ * fault. */
+static void push_ninth(unsigned c, const char *fault, unsigned rarely)
+{
+    static const char *const not_ufm[] = {
+        "ACK", "NACK", "BYTE 55", "SDA", "SCL"
+    };
+    if (per_mille(plans[c].nack))
+        push_event(c, is_ufm(c) ? not_ufm[below(5)] : "NACK");
+    else if (one_in(rarely))
+        push_event(c, is_ufm(c) ? "ILL" : fault);
+    else
+        push_ack(c);
+}
+
 static void feed(unsigned c)
 {
     struct plan *pl = &plans[c];
@@ -1035,12 +1102,10 @@ static void feed(unsigned c)
     }
     switch (ch->phase) {
     case ADDRESS:
-        push_event(c, per_mille(pl->nack) ? "NACK"
-                      : one_in(200) ? "SDA" : "ACK");
+        push_ninth(c, "SDA", 200);
         break;
     case SENDING:
-        push_event(c, per_mille(pl->nack) ? "NACK"
-                      : one_in(400) ? "SCL" : "ACK");
+        push_ninth(c, "SCL", 400);
         break;
     case RECEIVING:
         if (one_in(400))
@@ -1102,11 +1167,17 @@ static const char *const bad_lines[] = {
     "E 0 STOPP", "E 0 TICK 00", "E 0 SD", "E 0 SDA 0", "E 0 SCLL",
     "E 0 ILLEGAL", "E 0 START", "E 0 byte 11", "E 3 NAME", "E F BYTE",
     "E 9 ack", "T", "T ", "T  R", "T R ", "T X", "T RF", "TR", "T F F",
-    "X ", " X", "XX", "X 0", "#", "step", "-", "W C0 40 E 0 ACK"
+    "X ", " X", "XX", "X 0", "X 9663", "X 966", "X9669", "X  9669",
+    "X 96690", "X 9669 ", " X 9669", "X 9669\r", "x 9669", "X 09669",
+    "X 9669 B", "E 1 SENT 00", "E 1 SENTX", "E 1 SEN", "E 1 SENT ", "E 1 sent",
+    "E 3 SENT 00", "E 1 BYTE", "E 2 ACKS", "#", "step", "-", "W C0 40 E 0 ACK"
 };
 
 static void noise_bad(void)
 {
+    static const char *const readable[] = {
+        "W D0 40", "W D0 40", "E 1 BYTE A9", "R E8", "E 1 SENT", "X 9669"
+    };
     static uint8_t longest[20000];
     uint8_t bytes[64];
     size_t n = 0;
@@ -1128,8 +1199,7 @@ static void noise_bad(void)
     case 2: {   /* one byte of a readable line altered, put in or left out */
         char line[LINE + 2];
         size_t at;
-        snprintf(line, sizeof line, "%s",
-                 one_in(2) ? "W D0 40" : one_in(2) ? "E 1 BYTE A9" : "R E8");
+        snprintf(line, sizeof line, "%s", readable[below(6)]);
         n = strlen(line);
         at = below((unsigned)n);
         switch (below(3)) {
@@ -1159,7 +1229,7 @@ static void noise_bad(void)
 static void noise(void)
 {
     static const char *const names[] = {
-        "ACK", "NACK", "TICK", "STOP", "SDA", "SCL", "ILL"
+        "ACK", "NACK", "SENT", "TICK", "STOP", "SDA", "SCL", "ILL"
     };
     char line[LINE];
     unsigned k = below(100);
@@ -1184,19 +1254,19 @@ static void noise(void)
                  below(256));
     else if (k < 82)
         snprintf(line, sizeof line, "E %X %s", between(3, 15),
-                 names[below(7)]);
+                 names[below(8)]);
     else if (k < 84)
         snprintf(line, sizeof line, "E %X BYTE %02X", between(3, 15),
                  below(256));
     else if (k < 92)
         snprintf(line, sizeof line, "E %X %s", below(3),
-                 names[below(one_in(6) ? 7 : 4)]);
+                 names[below(one_in(6) ? 8 : 5)]);
     else if (k < 95)
         snprintf(line, sizeof line, "E %X BYTE %02X", below(3), below(256));
     else if (k < 99 || !one_in(20))
         snprintf(line, sizeof line, "T %c", one_in(2) ? 'R' : 'F');
     else
-        snprintf(line, sizeof line, "X");
+        snprintf(line, sizeof line, "%s", any_x());
     emit_text(line);
 }
 
@@ -1218,10 +1288,14 @@ int main(int argc, char **argv)
     last_without_lf = (int)(seed % 2);
     rate = noises[seed % 5];
     burst = bursts[seed / 5 % 3];
-    reset_part(&part);
+    reset_part(&part, PCA9663);
     while (made < wanted) {
         if (plans[c].together && plans[c].first < plans[c].last) {
             advance(c);
+            continue;
+        }
+        if (one_in(2500)) {
+            emit_text(any_x());
             continue;
         }
         if (per_mille(rate)) {

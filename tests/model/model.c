@@ -1,6 +1,6 @@
 /*
- * PCA9663 bench model, written by the book: the rules document in its own
- * order, the sentence above the code that renders it.
+ * PCA9663 and PCU9669 bench model, written by the book: the rules document in
+ * its own order, the sentence above the code that renders it.
  *
  * Reads a script on standard input, prints a header and one line a step.
  *
@@ -16,6 +16,16 @@
 /* ==== The part as the processor sees it ================================= */
 
 enum { CHANNELS = 3, ENTRIES = 64, BUFFER = 4352, MEMORY = CHANNELS * BUFFER };
+
+/* "The part is chosen at hardware reset" "Channels 1 and 2 are Ultra Fast-mode:
+ *  they only send, and nobody acknowledges." */
+enum device { PCA9663, PCU9669 };
+enum kind { FMPLUS, UFM };
+
+static enum kind kind_of(enum device device, unsigned c)
+{
+    return device == PCU9669 && c > 0 ? UFM : FMPLUS;
+}
 
 /* "Phases: Idle, Address, Sending, Receiving, Stopping, Waiting." */
 enum phase { IDLE, ADDRESS, SENDING, RECEIVING, STOPPING, WAITING };
@@ -45,7 +55,8 @@ enum {
     ADDRESS_REFUSED = 0x04, DATA_REFUSED = 0x08
 };
 
-/* The channel's registers, by the low four bits of C0h, D0h, E0h + n */
+/* The channel's registers, by the low four bits of C0h, D0h, E0h + n. On a UFm
+ * channel SCLL is SCLPER, SCLH is SDADLY, and TIMEOUT has no name. */
 enum {
     R_CONTROL, R_CHSTATUS, R_INTMSK, R_SLATABLE, R_TRANCONFIG, R_DATA,
     R_TRANSEL, R_TRANOFS, R_BYTECOUNT, R_FRAMECNT, R_REFRATE, R_SCLL, R_SCLH,
@@ -67,10 +78,12 @@ struct action {
     uint8_t kind, byte;
 };
 
-enum event { E_ACK, E_NACK, E_BYTE, E_TICK, E_STOP, E_SDA, E_SCL, E_ILL };
+enum event {
+    E_ACK, E_NACK, E_BYTE, E_TICK, E_STOP, E_SDA, E_SCL, E_ILL, E_SENT
+};
 
-/* TELL tells the channel's logger which event was answered 0, and what it has
- * to know and no wire shows. */
+/* TELL tells the channel's logger which event was answered 0 or not awaited,
+ * and what it has to know and no wire shows. */
 #ifdef CHECK
 #include "logger.c"
 #define TELL(ch, what) ((ch)->told |= (what))
@@ -79,6 +92,7 @@ enum event { E_ACK, E_NACK, E_BYTE, E_TICK, E_STOP, E_SDA, E_SCL, E_ILL };
 #endif
 
 struct channel {
+    uint8_t kind;
     uint8_t phase;
     uint8_t tp, te;             /* 0 or 1 */
     uint8_t sto, stoseq;        /* recorded stops */
@@ -104,6 +118,7 @@ struct channel {
 /* "All buffers are one lent memory of 13,056 bytes; each channel works on its
  *  own 4,352 bytes, from 4,352 times its number." */
 struct part {
+    uint8_t device;
     struct channel ch[CHANNELS];
     uint8_t be, ctrlintmsk;
     uint8_t key;                /* A5h seen at CTRLPRESET */
@@ -115,22 +130,25 @@ static uint8_t *buffer_of(struct part *p, unsigned c)
     return p->memory + (size_t)BUFFER * c;
 }
 
-/* The Reset column of the map */
-static void reset_channel(struct channel *ch, uint8_t *buf)
+/* The Reset column of the map; "UFm register defaults come from source document
+ *  000", Table 3 */
+static void reset_channel(struct channel *ch, uint8_t *buf, enum kind kind)
 {
     memset(ch, 0, sizeof *ch);
+    ch->kind = (uint8_t)kind;
     ch->framecnt = 0x01;
-    ch->scll = 0x5E;
-    ch->sclh = 0x3F;
-    ch->mode = 0x92;
+    ch->scll = kind == UFM ? 0x20 : 0x5E;
+    ch->sclh = kind == UFM ? 0x08 : 0x3F;
+    ch->mode = kind == UFM ? 0x83 : 0x92;
     memset(buf, 0, BUFFER);
     TELL(ch, TOLD_RESET);
 }
 
-static void reset_part(struct part *p)
+static void reset_part(struct part *p, enum device device)
 {
+    p->device = (uint8_t)device;
     for (unsigned c = 0; c < CHANNELS; c++)
-        reset_channel(&p->ch[c], buffer_of(p, c));
+        reset_channel(&p->ch[c], buffer_of(p, c), kind_of(device, c));
     p->be = 0;
     p->ctrlintmsk = 0;
     p->key = 0;
@@ -142,10 +160,17 @@ static int is_active(const struct channel *ch)
     return ch->phase != IDLE;
 }
 
+/* On a UFm channel "INTMSK bits 5 and 4 have no effect": they are stored and
+ * mask nothing. */
+static unsigned effective_mask(const struct channel *ch)
+{
+    return ch->kind == UFM ? ch->intmsk & ~(unsigned)(WE | RE) : ch->intmsk;
+}
+
 /* "channel pending (some CHSTATUS bit set whose INTMSK bit is 0)" */
 static int is_pending(const struct channel *ch)
 {
-    return (ch->chstatus & ~ch->intmsk & 0xFF) != 0;
+    return (ch->chstatus & ~effective_mask(ch)) != 0;
 }
 
 /* "CTRLSTATUS: 7 BE, 5 to 3 active, 2 to 0 channel pending" */
@@ -241,10 +266,11 @@ static int is_read(const struct channel *ch, unsigned t)
     return ch->slatable[t] & 1;
 }
 
-/* "A read of length 0 is skipped as done." */
+/* "A read of length 0 is skipped as done." On a UFm channel "a transaction
+ *  whose SLATABLE bit 0 is 1 is skipped as done", whatever its length. */
 static int is_skipped(const struct channel *ch, unsigned t)
 {
-    return is_read(ch, t) && length_of(ch, t) == 0;
+    return is_read(ch, t) && (ch->kind == UFM || length_of(ch, t) == 0);
 }
 
 /* "The start of transaction v is the sum of the v lengths before it." */
@@ -305,7 +331,8 @@ static int frame_in_range(const struct channel *ch)
      *  4,352" */
     if (start_of(ch, count_of(ch)) > BUFFER)
         return 0;
-    /* "whose transaction is a skipped one or doesn't exist" */
+    /* "whose transaction is a skipped one or doesn't exist"; so Receiving on a
+     * UFm channel is out of range */
     if (t >= count_of(ch) || is_skipped(ch, t))
         return 0;
     /* "whose phase isn't its direction's" */
@@ -331,6 +358,9 @@ static int in_range(const struct part *p)
 {
     for (unsigned c = 0; c < CHANNELS; c++) {
         const struct channel *ch = &p->ch[c];
+        /* A channel's kind that is not the part's own is out of range. */
+        if (ch->kind != kind_of(p->device, c))
+            return 0;
         if (!pointers_in_range(ch) || !registers_in_range(ch)
             || !ended_in_range(ch) || !records_in_range(ch)
             || !frame_in_range(ch))
@@ -346,9 +376,16 @@ static int leaves_all(const struct part *before, const struct part *after)
     a = *before;
     b = *after;
     a.key = b.key = 0;
-    for (unsigned c = 0; c < CHANNELS; c++)
+    for (unsigned c = 0; c < CHANNELS; c++) {
         a.ch[c].key = b.ch[c].key = 0;
+        a.ch[c].told = b.ch[c].told = 0;
+    }
     return memcmp(&a, &b, sizeof a) == 0;
+}
+
+static unsigned told_of(enum event e, int code)
+{
+    return code == OK ? TOLD(e) : code == NOT_AWAITED ? REFUSED(e) : 0;
 }
 
 static _Noreturn void give_up(void)
@@ -506,11 +543,12 @@ static void forget_other_keys(struct part *p, uint8_t address)
 }
 
 /* "Writing A5h to PRESET and then 5Ah resets that channel, its 4,352 bytes to
- *  zero, with no STOP" "A second A5h counts as a first." */
+ *  zero, with no STOP" "A second A5h counts as a first." The part is "kept by
+ *  other resets". */
 static void write_preset(struct channel *ch, uint8_t *buf, uint8_t value)
 {
     if (value == 0x5A && ch->key)
-        reset_channel(ch, buf);
+        reset_channel(ch, buf, ch->kind);
     else
         ch->key = value == 0xA5;
 }
@@ -519,7 +557,7 @@ static void write_preset(struct channel *ch, uint8_t *buf, uint8_t value)
 static void write_ctrlpreset(struct part *p, uint8_t value)
 {
     if (value == 0x5A && p->key)
-        reset_part(p);
+        reset_part(p, p->device);
     else
         p->key = value == 0xA5;
 }
@@ -664,12 +702,15 @@ static void end_frame(struct channel *ch)
     done_to_idle(ch);
 }
 
-/* The first transaction from t on that is not skipped, or the count.
+/* The first transaction from t on that is not skipped, or the count; from the
+ * start of t to its start, since a skipped one keeps its place in the buffer.
  * "A skipped one gets 02h when the walk passes it." */
-static unsigned walk(struct channel *ch, unsigned t)
+static unsigned walk(struct channel *ch, unsigned t, unsigned *start)
 {
-    while (t < count_of(ch) && is_skipped(ch, t))
+    while (t < count_of(ch) && is_skipped(ch, t)) {
+        *start += length_of(ch, t);
         ch->status[t++] = TRAN_DONE;
+    }
     return t;
 }
 
@@ -687,7 +728,7 @@ static struct action address(struct channel *ch, enum action_kind kind,
 
 static int begin_frame(struct channel *ch, struct action *act)
 {
-    unsigned t;
+    unsigned t, start = 0;
     TELL(ch, TOLD_BEGIN);
     /* "A frame begins: count 0, go Idle, nothing else." */
     if (count_of(ch) == 0) {
@@ -703,14 +744,13 @@ static int begin_frame(struct channel *ch, struct action *act)
     /* "Otherwise all STATUS and BYTECOUNT become 0." */
     memset(ch->status, NOT_BEGUN, sizeof ch->status);
     memset(ch->bytecount, 0, sizeof ch->bytecount);
-    /* "The first transaction that is not skipped" (those before it have
-     *  length 0, so its start is 0) */
-    t = walk(ch, 0);
+    /* "The first transaction that is not skipped" */
+    t = walk(ch, 0, &start);
     /* "If all are skipped, the frame ends at once, no action." */
     if (t == count_of(ch))
         end_frame(ch);
     else
-        *act = address(ch, A_S, t, 0);
+        *act = address(ch, A_S, t, start);
     return OK;
 }
 
@@ -735,7 +775,7 @@ static struct action next_transaction(struct channel *ch, int after_byte)
     if (stop_recorded(ch))
         return stop(ch, after_byte);
     start = ch->tran_start + length_of(ch, ch->tran);
-    t = walk(ch, ch->tran + 1u);
+    t = walk(ch, ch->tran + 1u, &start);
     if (t == count_of(ch))
         return stop(ch, after_byte);
     return address(ch, after_byte ? A_NR : A_R, t, start);
@@ -872,11 +912,28 @@ static int bus_error(struct channel *ch, int awaited, uint8_t flag)
     return OK;
 }
 
+/* "Refusals: ACK, NACK, BYTE, SDA and SCL on a UFm channel, and SENT on channel
+ *  0 or on a PCA9663, are no. 7." */
+static int is_of_kind(const struct channel *ch, enum event e)
+{
+    switch (e) {
+    case E_ACK: case E_NACK: case E_BYTE: case E_SDA: case E_SCL:
+        return ch->kind == FMPLUS;
+    case E_SENT:
+        return ch->kind == UFM;
+    default:
+        return 1;
+    }
+}
+
 static int channel_event(struct channel *ch, uint8_t *buf, enum event e,
                          uint8_t b, struct action *act)
 {
+    if (!is_of_kind(ch, e))
+        return NOT_AWAITED;
     switch (e) {
-    case E_ACK:  return event_ack(ch, buf, act);
+    /* "the event SENT stands in place of ACK" */
+    case E_ACK: case E_SENT: return event_ack(ch, buf, act);
     case E_NACK: return event_nack(ch, act);
     case E_BYTE: return event_byte(ch, buf, b, act);
     case E_TICK: return event_tick(ch, act);
@@ -996,7 +1053,7 @@ static struct answer read_part_register(struct part *p, uint8_t address)
         value = p->ctrlintmsk;
         break;
     case R_DEVICE_ID:
-        value = 0x63;
+        value = p->device == PCU9669 ? 0xE9 : 0x63;
         break;
     }
     /* F2h to F5h, CTRLPRESET and CTRLRDY read 00h */
@@ -1061,8 +1118,7 @@ static struct answer part_event(struct part *p, unsigned c, enum event e,
     if (c >= CHANNELS)
         return answer_code(NO_ADDRESS);
     code = channel_event(&p->ch[c], buffer_of(p, c), e, b, &act);
-    if (code == OK)
-        TELL(&p->ch[c], TOLD(e));
+    TELL(&p->ch[c], told_of(e, code));
     note_boundary(p, code);
     return answer_action(code, c, act);
 }
@@ -1077,10 +1133,11 @@ static struct answer part_trigger(struct part *p, int falling)
     return a;
 }
 
-/* "The hardware reset is a step that does the same." */
-static struct answer part_reset(struct part *p)
+/* "The hardware reset is a step that does the same." "The part is chosen at
+ *  hardware reset (script `X` or `X 9669`)" */
+static struct answer part_reset(struct part *p, enum device device)
 {
-    reset_part(p);
+    reset_part(p, device);
     return answer_code(OK);
 }
 
@@ -1122,6 +1179,8 @@ static struct answer run_event(struct part *p, unsigned c, const uint8_t *s,
         if (b >= 0)
             return part_event(p, c, E_BYTE, (uint8_t)b);
     }
+    if (is_text(s, n, "SENT"))
+        return part_event(p, c, E_SENT, 0);
     if (is_text(s, n, "STOP"))
         return part_event(p, c, E_STOP, 0);
     if (is_text(s, n, "TICK"))
@@ -1138,7 +1197,8 @@ static struct answer run_event(struct part *p, unsigned c, const uint8_t *s,
 }
 
 /* "a step a line, upper-case hex, single spaces: W aa dd, R aa, E c NAME,
- *  E c BYTE bb, T R or T F, X (hardware reset); c is one hex digit" */
+ *  E c BYTE bb, T R or T F, X (hardware reset); c is one hex digit"
+ * `X` chooses the PCA9663, `X 9669` the PCU9669. */
 static struct answer run_line(struct part *p, const uint8_t *s, size_t n)
 {
     if (n == 7 && s[0] == 'W' && s[1] == ' ' && s[4] == ' ') {
@@ -1157,63 +1217,86 @@ static struct answer run_line(struct part *p, const uint8_t *s, size_t n)
     } else if (n == 3 && s[0] == 'T' && s[1] == ' '
                && (s[2] == 'R' || s[2] == 'F')) {
         return part_trigger(p, s[2] == 'F');
-    } else if (n == 1 && s[0] == 'X') {
-        return part_reset(p);
+    } else if (is_text(s, n, "X")) {
+        return part_reset(p, PCA9663);
+    } else if (is_text(s, n, "X 9669")) {
+        return part_reset(p, PCU9669);
     }
     return answer_code(UNREADABLE);
 }
 
 #ifdef CHECK
 
-/* "A frame can't hang": one of the events that its bound counts would be
- * answered 0. Each is tried on a copy. */
-static int awaits_counted(const struct channel *ch)
+/* Whether the channel, were it of this kind, would answer 0; tried on a copy */
+static int would_take(const struct channel *ch, enum kind kind, enum event e)
 {
     static uint8_t buf[BUFFER];
-    for (unsigned e = E_ACK; e <= E_ILL; e++) {
-        struct channel copy = *ch;
-        struct action act;
-        if (COUNTED & TOLD(e) && channel_event(&copy, buf, e, 0, &act) == OK)
+    struct channel copy = *ch;
+    struct action act;
+    copy.kind = (uint8_t)kind;
+    return channel_event(&copy, buf, e, 0, &act) == OK;
+}
+
+/* "A frame can't hang": one of the events that its bound counts would be
+ * answered 0. */
+static int awaits_counted(const struct channel *ch)
+{
+    for (unsigned e = E_ACK; e <= E_SENT; e++)
+        if (COUNTED & TOLD(e) && would_take(ch, ch->kind, e))
             return 1;
-    }
     return 0;
 }
 
-/* What the logger on the bus makes of the line: bit c for channel c */
-static unsigned resets_due(const uint8_t *s, const struct answer *a)
+/* The events that the step's channel refused and the other kind would take */
+static unsigned refused_for_kind(const struct channel *ch)
 {
-    static struct bus bus;
-    struct line l = { '?', 0, 0, a->code != OK };
+    enum kind other = ch->kind == UFM ? FMPLUS : UFM;
+    unsigned events = 0;
+    for (unsigned e = E_ACK; e <= E_SENT; e++)
+        if (ch->told & REFUSED(e) && would_take(ch, other, e))
+            events |= TOLD(e);
+    return events;
+}
+
+/* What the logger on the bus makes of the line: bit c for channel c */
+static unsigned resets_due(struct bus *bus, const uint8_t *s, size_t n,
+                           const struct answer *a)
+{
+    struct line l = { '?', 0, 0, a->code != OK, 0 };
     if (a->code != UNREADABLE)
         l.kind = (char)s[0];
     if (l.kind == 'W') {
         l.address = (uint8_t)hex_byte(s + 2);
         l.value = (uint8_t)hex_byte(s + 5);
     }
-    return log_line(&bus, &l);
+    l.number = l.kind == 'X' && n > 1;
+    return log_line(bus, &l);
 }
 
-static struct levels levels_of(const struct part *p)
+static struct levels levels_of(const struct part *p, const struct bus *bus)
 {
-    struct levels l = { { 0 }, { 0 }, ctrlstatus(p), p->ctrlintmsk };
+    struct levels l = { { 0 }, { 0 }, { 0 }, ctrlstatus(p), p->ctrlintmsk };
     for (unsigned c = 0; c < CHANNELS; c++) {
         l.chstatus[c] = p->ch[c].chstatus;
         l.intmsk[c] = p->ch[c].intmsk;
+        l.ufm[c] = log_ufm(bus, c);
     }
     return l;
 }
 
-static void check_wires(struct part *p, const uint8_t *s,
+static void check_wires(struct part *p, const uint8_t *s, size_t n,
                         const struct answer *a)
 {
     static struct logger loggers[CHANNELS];
-    unsigned due = resets_due(s, a);
-    struct levels levels = levels_of(p);
+    static struct bus bus;
+    unsigned due = resets_due(&bus, s, n, a);
+    struct levels levels = levels_of(p, &bus);
     for (unsigned c = 0; c < CHANNELS; c++) {
         const struct channel *ch = &p->ch[c];
         struct sight sight = {
             ch->told, a->act[c], ch->slatable, ch->tranconfig, ch->bytecount,
-            buffer_of(p, c), read_control(ch), ch->intmsk
+            ch->status, buffer_of(p, c), levels.ufm[c], ch->chstatus,
+            read_control(ch), ch->intmsk, refused_for_kind(ch)
         };
         const char *broken = log_step(&loggers[c], &sight);
         if (broken == NULL && loggers[c].running && !awaits_counted(ch))
@@ -1227,6 +1310,7 @@ static void check_wires(struct part *p, const uint8_t *s,
             give_up();
         }
     }
+    log_part(&bus, loggers);
     if (log_int(&levels) != int_pulled(p)) {
         fprintf(stderr, "the logger differs: INT\n");
         give_up();
@@ -1246,7 +1330,7 @@ static struct answer run_step(struct part *p, const uint8_t *s, size_t n)
     before = *p;
     a = run_line(p, s, n);
     check_step(&before, p, &a);
-    check_wires(p, s, &a);
+    check_wires(p, s, n, &a);
     return a;
 #else
     return run_line(p, s, n);
@@ -1406,7 +1490,8 @@ int main(void)
     struct head h = { { 0 }, 0 };
     size_t n;
 
-    reset_part(&part);
+    /* Before the first line it is a PCA9663. */
+    reset_part(&part, PCA9663);
     print_header();
     while ((n = fread(in, 1, sizeof in, stdin)) > 0)
         run_block(&h, in, n);
