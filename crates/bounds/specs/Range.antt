@@ -7,9 +7,11 @@ use lib.Dec.{eqb, ltb}
 use Rattle.laws.specs.Pick.{if_then_else_}
 use Rattle.rules.specs.declared.state.Phase.{Phase}
 use Rattle.rules.specs.declared.state.Phase.the-variants.{Idle, Address, Sending, Receiving, Stopping, Waiting}
+use Rattle.rules.specs.declared.parts.Kind.{Kind}
 use Rattle.rules.specs.declared.state.Ptrs.{Ptrs}
 use Rattle.rules.specs.declared.state.Walk.{Walk}
 use Rattle.rules.specs.Numbers.{bufferSize}
+use Rattle.rules.specs.Parts.{isFm}
 use Rattle.rules.specs.Registers.{activeOf}
 use Rattle.rules.specs.Tables.{fitting, readsOf, skippedOf}
 
@@ -61,10 +63,10 @@ walkIn w te framecnt = if endedIn (w .phase) te framecnt (w .ended) then recorde
 -- ---- the frame
 
 -- whose lengths sum above 4,352, whose transaction is a skipped one or doesn't exist
-unfoldable pub standing : ℕ → List ℕ → List ℕ → Bool
-standing n sla lens =
+unfoldable pub standing : Kind → ℕ → List ℕ → List ℕ → Bool
+standing kind n sla lens =
     if fitting lens then
-    (if ltb n (getD lens 0 0) then not (skippedOf (getD sla n 0) (getD lens (n + 1) 0)) else false) else false
+    (if ltb n (getD lens 0 0) then not (skippedOf kind (getD sla n 0) (getD lens (n + 1) 0)) else false) else false
 
 -- whose phase isn't its direction's, or whose transaction's BYTECOUNT isn't 0 in Address or below the length in the other two
 unfoldable pub countedIn : Phase → ℕ → ℕ → ℕ → Bool
@@ -90,14 +92,20 @@ countsIn p n sla lens counts =
     if countedIn p (getD sla n 0) (getD lens (n + 1) 0) (getD counts n 0) then clearAfter counts (n + 1) else false
 
 -- a frame at transaction n in phase p
-unfoldable pub frameAt : Phase → ℕ → List ℕ → List ℕ → List ℕ → Bool
-frameAt p n sla lens counts = if standing n sla lens then countsIn p n sla lens counts else false
+unfoldable pub frameAt : Kind → Phase → ℕ → List ℕ → List ℕ → List ℕ → Bool
+frameAt kind p n sla lens counts = if standing kind n sla lens then countsIn p n sla lens counts else false
 
 -- a frame in Address, Sending or Receiving
-unfoldable pub frameIn : Phase → List ℕ → List ℕ → List ℕ → Bool
-frameIn Idle sla lens counts = true
-frameIn (Address n) sla lens counts = frameAt (Address n) n sla lens counts
-frameIn (Sending n) sla lens counts = frameAt (Sending n) n sla lens counts
-frameIn (Receiving n) sla lens counts = frameAt (Receiving n) n sla lens counts
-frameIn Stopping sla lens counts = true
-frameIn Waiting sla lens counts = true
+unfoldable pub frameIn : Kind → Phase → List ℕ → List ℕ → List ℕ → Bool
+frameIn kind Idle sla lens counts = true
+frameIn kind (Address n) sla lens counts = frameAt kind (Address n) n sla lens counts
+frameIn kind (Sending n) sla lens counts = frameAt kind (Sending n) n sla lens counts
+frameIn kind (Receiving n) sla lens counts = frameAt kind (Receiving n) n sla lens counts
+frameIn kind Stopping sla lens counts = true
+frameIn kind Waiting sla lens counts = true
+
+-- ---- document 02, request Three: the kinds of the part's channels
+
+-- a part in which a channel's kind isn't the part's own: channel 0 is Fm+ on both, channels 1 and 2 are of one kind
+unfoldable pub kindsIn : Kind → Kind → Kind → Bool
+kindsIn first second third = if isFm first then (if isFm second then isFm third else not (isFm third)) else false

@@ -2,13 +2,15 @@
 ghost use mathlib.Core.Path.{_≡_};
 ghost use Prim.Native.Nat.{_<_, _≤_};
 ghost use lib.ListN.{getD};
-ghost use Rattle.bounds.specs.Range.{pointersIn, registersIn, countingOf, endedIn, blankOf, recordedIn, walkIn, standing, countedIn, clearAfter, countsIn, frameAt, frameIn};
+ghost use Rattle.bounds.specs.Range.{pointersIn, registersIn, countingOf, endedIn, blankOf, recordedIn, walkIn, standing, countedIn, clearAfter, countsIn, frameAt, frameIn, kindsIn};
 use rules::BUFFER;
+use rules::Kind;
 use rules::Phase;
 use rules::Ptrs;
 use rules::Walk;
 use rules::active;
 use rules::fits;
+use rules::is_fm;
 use rules::reads;
 use rules::skipped;
 
@@ -102,14 +104,14 @@ pub fn walk_in(w: Walk, te: bool, framecnt: u8) -> bool
 }
 
 // Whether a frame that fits has transaction n, and does not skip it.
-fn stands<'a>(n: usize, sla: &'a [u8; 64], lens: &'a [u8; 65]) -> bool
+fn stands<'a>(kind: Kind, n: usize, sla: &'a [u8; 64], lens: &'a [u8; 65]) -> bool
     requires { ⌜ getD (now lens) 0 0 ≤ 64 ⌝ }
-    ensures { λ r. ⌜ r ≡ standing n (now (sla .entry)) (now (lens .entry)) ⌝ }
+    ensures { λ r. ⌜ r ≡ standing kind n (now (sla .entry)) (now (lens .entry)) ⌝ }
 {
     if fits(lens) {
         let count = lens[0];
         if n < count as usize {
-            !skipped(sla[n], lens[n + 1])
+            !skipped(kind, sla[n], lens[n + 1])
         } else {
             false
         }
@@ -163,6 +165,7 @@ fn counts_in<'a>(
 }
 
 fn frame_at<'a>(
+    kind: Kind,
     p: Phase,
     n: usize,
     sla: &'a [u8; 64],
@@ -170,25 +173,46 @@ fn frame_at<'a>(
     counts: &'a [u8; 64],
 ) -> bool
     requires { ⌜ getD (now lens) 0 0 ≤ 64 ⌝ }
-    ensures { λ r. ⌜ r ≡ frameAt p n (now (sla .entry)) (now (lens .entry)) (now (counts .entry)) ⌝ }
+    ensures { λ r. ⌜ r ≡ frameAt kind p n (now (sla .entry)) (now (lens .entry)) (now (counts .entry)) ⌝ }
 {
-    if stands(n, sla, lens) {
+    if stands(kind, n, sla, lens) {
         counts_in(p, n, sla, lens, counts)
     } else {
         false
     }
 }
 
-pub fn frame_in<'a>(p: Phase, sla: &'a [u8; 64], lens: &'a [u8; 65], counts: &'a [u8; 64]) -> bool
+pub fn frame_in<'a>(
+    kind: Kind,
+    p: Phase,
+    sla: &'a [u8; 64],
+    lens: &'a [u8; 65],
+    counts: &'a [u8; 64],
+) -> bool
     requires { ⌜ getD (now lens) 0 0 ≤ 64 ⌝ }
-    ensures { λ r. ⌜ r ≡ frameIn p (now (sla .entry)) (now (lens .entry)) (now (counts .entry)) ⌝ }
+    ensures { λ r. ⌜ r ≡ frameIn kind p (now (sla .entry)) (now (lens .entry)) (now (counts .entry)) ⌝ }
 {
     match p {
         Phase::Idle => true,
-        Phase::Address(n) => frame_at(p, n as usize, sla, lens, counts),
-        Phase::Sending(n) => frame_at(p, n as usize, sla, lens, counts),
-        Phase::Receiving(n) => frame_at(p, n as usize, sla, lens, counts),
+        Phase::Address(n) => frame_at(kind, p, n as usize, sla, lens, counts),
+        Phase::Sending(n) => frame_at(kind, p, n as usize, sla, lens, counts),
+        Phase::Receiving(n) => frame_at(kind, p, n as usize, sla, lens, counts),
         Phase::Stopping => true,
         Phase::Waiting => true,
+    }
+}
+
+// Whether the kinds of the channels are those of one part.
+pub fn kinds_in(first: Kind, second: Kind, third: Kind) -> bool
+    ensures { λ r. ⌜ r ≡ kindsIn first second third ⌝ }
+{
+    if is_fm(first) {
+        if is_fm(second) {
+            is_fm(third)
+        } else {
+            !is_fm(third)
+        }
+    } else {
+        false
     }
 }

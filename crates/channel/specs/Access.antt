@@ -81,11 +81,11 @@ writtenBy c m Preset v = leaving m (on c (plain (c .head)))
 unfoldable pub writeOf : Channel → List ℕ → Register → ℕ → Served
 writeOf c m reg v = guarded (refusalOf (c .head) (c .tranconfig) reg v) c m (writtenBy c m reg v)
 
--- ---- the key: A5h at PRESET is kept, and then 5Ah resets the channel and its 4,352 bytes; any other write at its addresses, refused or not, forgets the A5h
+-- ---- the key: A5h at PRESET is kept, and then 5Ah resets the channel, whose kind stays, and its 4,352 bytes; any other write at its addresses, refused or not, forgets the A5h
 
 abbrev pub keyed : Channel → Register → ℕ → Channel
 keyed c reg v = withHead c (withKey (c .head) (keyAfter (presetOf reg) v))
 
 unfoldable pub putOf : Channel → List ℕ → Register → ℕ → Served
 putOf c m reg v =
-    if resetsOf (presetOf reg) v (c .head .key) then leaving zeros (on fresh (plain freshHead)) else writeOf (keyed c reg v) m reg v
+    if resetsOf (presetOf reg) v (c .head .key) then leaving zeros (on (fresh (c .head .straps)) (plain (freshHead (c .head .straps)))) else writeOf (keyed c reg v) m reg v

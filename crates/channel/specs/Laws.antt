@@ -2,3 +2,4 @@
 pub mod Frames
 pub mod Kept
 pub mod Range
+pub mod Straps

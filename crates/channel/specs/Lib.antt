@@ -5,4 +5,5 @@ pub mod Wires
 pub mod Access
 pub mod Step
 pub mod Facts
+pub mod Unanswered
 pub mod Laws

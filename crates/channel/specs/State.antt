@@ -5,6 +5,7 @@ use lib.Dec.{eqb}
 use lib.ListN.{getD, replicate}
 use Rattle.laws.specs.Pick.{if_then_else_}
 use Rattle.rules.specs.Numbers.{bufferSize, done}
+use Rattle.rules.specs.declared.parts.Straps.{Straps}
 use Rattle.head.specs.declared.state.Head.{Head}
 use Rattle.head.specs.declared.state.Headed.{Headed}
 use Rattle.head.specs.State.{freshHead, refused}
@@ -33,8 +34,8 @@ withCounts c l = record { head = c .head; slatable = c .slatable; tranconfig = c
 unfoldable pub zeros : List ℕ
 zeros = replicate bufferSize 0
 
-abbrev pub fresh : Channel
-fresh = record { head = freshHead; slatable = replicate 64 0; tranconfig = replicate 65 0; status = replicate 64 0; bytecount = replicate 64 0 }
+abbrev pub fresh : Straps → Channel
+fresh x = record { head = freshHead x; slatable = replicate 64 0; tranconfig = replicate 65 0; status = replicate 64 0; bytecount = replicate 64 0 }
 
 -- ---- what a step answers, where only the head changes: what the head comes to, of a channel with these tables
 abbrev pub on : Channel → Headed → Stepped

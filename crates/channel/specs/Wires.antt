@@ -24,7 +24,7 @@ use Rattle.sequence.specs.declared.wires.Beat.{Beat}
 use Rattle.sequence.specs.declared.wires.Beat.the-variants.{Quiet, Begin as BeginBeat, Late as LateBeat}
 use Rattle.sequence.specs.Wires.{beginningOf, reachOf, moveOf, nextOf, stopBy, againBy, maskedOf, edgeBeat}
 use Rattle.head.specs.State.{plain, refused, acted}
-use Rattle.head.specs.Head.{haltOf, inPhase, idled, frameEnded, stopped, clocked, noted, failed, lateBy, faulted}
+use Rattle.head.specs.Head.{haltOf, kindOf, inPhase, idled, frameEnded, stopped, clocked, noted, failed, lateBy, faulted}
 use Rattle.channel.specs.declared.state.Channel.{Channel}
 use Rattle.channel.specs.declared.state.Stepped.{Stepped}
 use Rattle.channel.specs.State.{Served, on, leaving, countOf, withHead, withStatus, withCounts}
@@ -68,7 +68,7 @@ startedBy c (Send n) = sentTo c n (S (slaveOf c n))
 
 unfoldable pub started : Channel → Stepped
 started c =
-    let to = firstSent (c .slatable) (c .tranconfig) 0 (countOf c) in
+    let to = firstSent (kindOf (c .head)) (c .slatable) (c .tranconfig) 0 (countOf c) in
     startedBy (passed c 0 to) (moveOf false to (countOf c))
 
 -- all STATUS and BYTECOUNT become 0
@@ -93,14 +93,14 @@ movedTo c t (Send n) = sentTo c n (againBy t (slaveOf c n))
 
 unfoldable pub onward : Channel → ℕ → Tail → Stepped
 onward c n t =
-    let to = reachOf (haltOf (c .head)) n (c .slatable) (c .tranconfig) in
+    let to = reachOf (kindOf (c .head)) (haltOf (c .head)) n (c .slatable) (c .tranconfig) in
     movedTo (passed c (n + 1) to) t (moveOf (haltOf (c .head)) to (countOf c))
 
 -- a transaction is done: STATUS 02h
 unfoldable pub finished : Channel → ℕ → Tail → Stepped
 finished c n t = onward (resolved c n doneStatus) n t
 
--- ---- ACK
+-- ---- ACK, and of a UFm channel SENT
 
 -- BYTECOUNT plus one
 unfoldable pub countedOne : Channel → ℕ → Channel

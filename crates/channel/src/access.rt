@@ -153,8 +153,9 @@ fn write_by(
     }
 }
 
-// The channel and its bytes as a reset leaves them.
+// The channel and its bytes as a reset leaves them. What the hardware reset chose stays.
 fn reset(
+    h: Head,
     sla: &mut [u8; 64],
     lens: &mut [u8; 65],
     status: &mut [u8; 64],
@@ -162,14 +163,14 @@ fn reset(
     mem: &mut [u8],
 ) -> Headed
     requires { ⌜ length (now mem) ≡ bufferSize ⌝ }
-    ensures { λ r. ⌜ leaves r sla lens status counts mem ≡ leaving zeros (on fresh (plain freshHead)) ⌝ }
+    ensures { λ r. ⌜ leaves r sla lens status counts mem ≡ leaving zeros (on (fresh (h .straps)) (plain (freshHead (h .straps)))) ⌝ }
 {
     rules::wipe(mem);
     *sla = [0; 64];
     *lens = [0; 65];
     *status = [0; 64];
     *counts = [0; 64];
-    Head::new().answer(DONE)
+    Head::new(h.straps).answer(DONE)
 }
 
 // A write at a place: the reset by the key, or the write, after which the key is A5h at PRESET or none.
@@ -191,7 +192,7 @@ pub(crate) fn write(
     };
     let preset = rules::is_preset(reg);
     if rules::resets(preset, v, h.key) {
-        return reset(sla, lens, status, counts, mem);
+        return reset(h, sla, lens, status, counts, mem);
     }
     let g = h.with_key(rules::key_after(preset, v));
     let n = g.refusal(lens, reg, v);

@@ -1,4 +1,4 @@
-// One channel of the PCA9663: its record, and the step over it.
+// One channel, Fm+ or UFm: its record, and the step over it.
 mod access;
 mod range;
 mod state;

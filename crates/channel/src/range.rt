@@ -10,8 +10,16 @@ impl Channel {
         let h = self.head;
         let w = h.walk;
         let phase = w.phase;
+        let straps = h.straps;
+        let kind = straps.kind;
         if h.in_range(self.tranconfig[0]) {
-            bounds::frame_in(phase, &self.slatable, &self.tranconfig, &self.bytecount)
+            bounds::frame_in(
+                kind,
+                phase,
+                &self.slatable,
+                &self.tranconfig,
+                &self.bytecount,
+            )
         } else {
             false
         }

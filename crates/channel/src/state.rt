@@ -5,6 +5,7 @@ ghost use Rattle.channel.specs.State.{fresh, on};
 use head::Answer;
 use head::Head;
 use rules::Action;
+use rules::Straps;
 
 // A channel: its head, and its tables, statuses and counts.
 pub struct Channel {
@@ -23,12 +24,12 @@ pub struct Stepped {
 
 impl Channel {
     // The channel as a reset leaves it.
-    pub fn new() -> Self
-        ensures { λ r. ⌜ r ≡ fresh ⌝ }
+    pub fn new(straps: Straps) -> Self
+        ensures { λ r. ⌜ r ≡ fresh straps ⌝ }
     {
         Channel {
             slatable: [0; 64],
-            head: Head::new(),
+            head: Head::new(straps),
             status: [0; 64],
             bytecount: [0; 64],
             tranconfig: [0; 65],

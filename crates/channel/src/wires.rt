@@ -82,7 +82,7 @@ fn start(
     *status = [NOT_BEGUN; 64];
     *counts = [0; 64];
     let count = rules::byte(lens[0]);
-    let to = rules::first_sent(sla, lens, 0, count);
+    let to = rules::first_sent(h.kind(), sla, lens, 0, count);
     let m = sequence::next_move(false, to, count);
     rules::mark(status, 0, to);
     start_by(h, sla, lens, status, counts, m)
@@ -171,7 +171,7 @@ fn onward(
     ensures { λ r. ⌜ left r sla lens status counts ≡ onward (found h sla lens status counts) n t ⌝ }
 {
     let halt = h.halts();
-    let to = sequence::reach(halt, n, sla, lens);
+    let to = sequence::reach(h.kind(), halt, n, sla, lens);
     let count = rules::byte(lens[0]);
     let m = sequence::next_move(halt, to, count);
     rules::mark(status, n + 1, to);

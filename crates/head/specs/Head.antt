@@ -1,6 +1,7 @@
 -- The rules that need no table: what each makes of a channel's head.
 use Prim.Native.Nat.{ℕ, _+_}
 use mathlib.Core.Bool.{Bool}
+use Rattle.rules.specs.declared.parts.Kind.{Kind}
 use Rattle.rules.specs.declared.state.Phase.{Phase}
 use Rattle.rules.specs.declared.state.Phase.the-variants.{Stopping, Receiving}
 use Rattle.rules.specs.Registers.{bitOf, femsk}
@@ -29,9 +30,13 @@ haltOf h = haltedOf (h .walk .fe) (h .walk .sto)
 abbrev pub femskOf : Head → Bool
 femskOf h = bitOf (h .regs .intmsk) femsk
 
+-- Fm+ or UFm
+abbrev pub kindOf : Head → Kind
+kindOf h = h .straps .kind
+
 -- what event e comes to
 abbrev pub turnAt : Head → Event → Turn
-turnAt h e = turnOf (h .walk .phase) (h .regs .te) (framecntOf h) e
+turnAt h e = turnOf (kindOf h) (h .walk .phase) (h .regs .te) (framecntOf h) e
 
 -- ---- the walk: its phase, or a new one
 abbrev pub inPhase : Head → Phase → Head

@@ -1,6 +1,9 @@
 -- Words for the head of a channel: a part of it replaced, the reset values, and what a step answers.
 use Prim.Native.Nat.{ℕ}
 use mathlib.Core.Bool.{Bool, false}
+use Rattle.rules.specs.declared.parts.Kind.{Kind}
+use Rattle.rules.specs.declared.parts.Kind.the-variants.{Fm, Ufm}
+use Rattle.rules.specs.declared.parts.Straps.{Straps}
 use Rattle.rules.specs.declared.state.Regs.{Regs}
 use Rattle.rules.specs.declared.state.Flags.{Flags}
 use Rattle.rules.specs.declared.state.Ptrs.{Ptrs}
@@ -15,38 +18,44 @@ use Rattle.head.specs.declared.state.Headed.{Headed}
 
 -- ---- the head with one part replaced
 abbrev pub withRegs : Head → Regs → Head
-withRegs h x = record { regs = x; flags = h .flags; ptrs = h .ptrs; walk = h .walk; key = h .key; settings = h .settings }
+withRegs h x = record { regs = x; flags = h .flags; ptrs = h .ptrs; walk = h .walk; key = h .key; straps = h .straps; settings = h .settings }
 
 abbrev pub withFlags : Head → Flags → Head
-withFlags h x = record { regs = h .regs; flags = x; ptrs = h .ptrs; walk = h .walk; key = h .key; settings = h .settings }
+withFlags h x = record { regs = h .regs; flags = x; ptrs = h .ptrs; walk = h .walk; key = h .key; straps = h .straps; settings = h .settings }
 
 abbrev pub withPtrs : Head → Ptrs → Head
-withPtrs h x = record { regs = h .regs; flags = h .flags; ptrs = x; walk = h .walk; key = h .key; settings = h .settings }
+withPtrs h x = record { regs = h .regs; flags = h .flags; ptrs = x; walk = h .walk; key = h .key; straps = h .straps; settings = h .settings }
 
 abbrev pub withWalk : Head → Walk → Head
-withWalk h x = record { regs = h .regs; flags = h .flags; ptrs = h .ptrs; walk = x; key = h .key; settings = h .settings }
+withWalk h x = record { regs = h .regs; flags = h .flags; ptrs = h .ptrs; walk = x; key = h .key; straps = h .straps; settings = h .settings }
 
 -- the flags and the walk
 abbrev pub withState : Head → Flags → Walk → Head
-withState h f w = record { regs = h .regs; flags = f; ptrs = h .ptrs; walk = w; key = h .key; settings = h .settings }
+withState h f w = record { regs = h .regs; flags = f; ptrs = h .ptrs; walk = w; key = h .key; straps = h .straps; settings = h .settings }
 
 abbrev pub withKey : Head → Bool → Head
-withKey h x = record { regs = h .regs; flags = h .flags; ptrs = h .ptrs; walk = h .walk; key = x; settings = h .settings }
+withKey h x = record { regs = h .regs; flags = h .flags; ptrs = h .ptrs; walk = h .walk; key = x; straps = h .straps; settings = h .settings }
 
 abbrev pub withSettings : Head → Settings → Head
-withSettings h x = record { regs = h .regs; flags = h .flags; ptrs = h .ptrs; walk = h .walk; key = h .key; settings = x }
+withSettings h x = record { regs = h .regs; flags = h .flags; ptrs = h .ptrs; walk = h .walk; key = h .key; straps = h .straps; settings = x }
 
 -- ---- the reset values
 
--- FRAMECNT 01h, REFRATE 00h, SCLL 5Eh, SCLH 3Fh, MODE 92h, TIMEOUT 00h; all else 00h
-abbrev pub freshHead : Head
-freshHead = record {
+-- FRAMECNT 01h, REFRATE 00h, SCLL 5Eh, SCLH 3Fh, MODE 92h, TIMEOUT 00h. UFm (000, Table 3): +B SCLPER 20h, +C SDADLY 08h, +D MODE 83h, +E reserved 00h
+abbrev pub settingsOf : Kind → Settings
+settingsOf Fm = record { framecnt = 0x01; refrate = 0x00; scll = 0x5E; sclh = 0x3F; mode = 0x92; timeout = 0x00 }
+settingsOf Ufm = record { framecnt = 0x01; refrate = 0x00; scll = 0x20; sclh = 0x08; mode = 0x83; timeout = 0x00 }
+
+-- all else 00h
+abbrev pub freshHead : Straps → Head
+freshHead x = record {
   regs = record { intmsk = 0; transel = 0; tranofs = 0; tp = false; te = false };
   flags = noFlags;
   ptrs = record { sla = 0; conf = 0; buf = 0; count = 0 };
   walk = idle;
   key = false;
-  settings = record { framecnt = 0x01; refrate = 0x00; scll = 0x5E; sclh = 0x3F; mode = 0x92; timeout = 0x00 };
+  straps = x;
+  settings = settingsOf (x .kind);
 }
 
 -- ---- what a step answers: number, value, action

@@ -1,14 +1,16 @@
 // The head of a channel, what a step answers, and the changes of one part of the head.
 ghost use mathlib.Core.Path.{_≡_};
-ghost use Rattle.head.specs.State.{freshHead, refused, replied, acted, withWalk, withFlags, withState, withKey};
+ghost use Rattle.head.specs.State.{settingsOf, freshHead, refused, replied, acted, withWalk, withFlags, withState, withKey};
 use rules::Action;
 use rules::DONE;
 use rules::Flags;
+use rules::Kind;
 use rules::Ptrs;
 use rules::Regs;
+use rules::Straps;
 use rules::Walk;
 
-// FRAMECNT, REFRATE, SCLL, SCLH, MODE and TIMEOUT.
+// FRAMECNT, REFRATE, SCLL, SCLH, MODE and TIMEOUT; of a UFm channel SCLPER and SDADLY stand in place of SCLL and SCLH, and TIMEOUT is reserved.
 pub struct Settings {
     pub framecnt: u8,
     pub refrate: u8,
@@ -18,7 +20,8 @@ pub struct Settings {
     pub timeout: u8,
 }
 
-// A channel without its tables: its registers and settings, flags, pointers, the walk of its sequence, and whether A5h was written to PRESET.
+// A channel without its tables: its registers and settings, flags, pointers, the walk of its sequence, whether A5h was written to PRESET, and what the hardware
+// reset chose.
 // A step takes it by value and has the tables lent, so that no table is copied from call to call.
 pub struct Head {
     pub regs: Regs,
@@ -26,6 +29,7 @@ pub struct Head {
     pub settings: Settings,
     pub ptrs: Ptrs,
     pub flags: Flags,
+    pub straps: Straps,
     pub walk: Walk,
 }
 
@@ -42,11 +46,36 @@ pub struct Headed {
     pub answer: Answer,
 }
 
+// The settings as a reset leaves them.
+fn settings_of(k: Kind) -> Settings
+    ensures { λ r. ⌜ r ≡ settingsOf k ⌝ }
+{
+    match k {
+        Kind::Fm => Settings {
+            framecnt: 0x01,
+            refrate: 0x00,
+            scll: 0x5E,
+            sclh: 0x3F,
+            mode: 0x92,
+            timeout: 0x00,
+        },
+        Kind::Ufm => Settings {
+            framecnt: 0x01,
+            refrate: 0x00,
+            scll: 0x20,
+            sclh: 0x08,
+            mode: 0x83,
+            timeout: 0x00,
+        },
+    }
+}
+
 impl Head {
     // The head as a reset leaves it.
-    pub fn new() -> Self
-        ensures { λ r. ⌜ r ≡ freshHead ⌝ }
+    pub fn new(straps: Straps) -> Self
+        ensures { λ r. ⌜ r ≡ freshHead straps ⌝ }
     {
+        let kind = straps.kind;
         Head {
             regs: Regs {
                 intmsk: 0,
@@ -56,14 +85,8 @@ impl Head {
                 te: false,
             },
             key: false,
-            settings: Settings {
-                framecnt: 0x01,
-                refrate: 0x00,
-                scll: 0x5E,
-                sclh: 0x3F,
-                mode: 0x92,
-                timeout: 0x00,
-            },
+            straps,
+            settings: settings_of(kind),
             ptrs: Ptrs {
                 sla: 0,
                 conf: 0,

@@ -2,13 +2,14 @@
 ghost use mathlib.Core.Path.{_≡_};
 ghost use Prim.Native.Nat.{_<_};
 ghost use Rattle.head.specs.State.{plain};
-ghost use Rattle.head.specs.Head.{haltOf, inPhase, idled, endedBy, frameEnded, stopped, clocked, noted, failed, lateBy, faulted, turnAt};
+ghost use Rattle.head.specs.Head.{haltOf, kindOf, inPhase, idled, endedBy, frameEnded, stopped, clocked, noted, failed, lateBy, faulted, turnAt};
 use crate::state::Head;
 use crate::state::Headed;
 use rules::Action;
 use rules::DONE;
 use rules::Event;
 use rules::FEMSK;
+use rules::Kind;
 use rules::Phase;
 use sequence::Ending;
 use sequence::Fault;
@@ -33,6 +34,13 @@ impl Head {
     {
         let w = self.walk;
         sequence::halted(w.fe, w.sto)
+    }
+
+    pub fn kind(self) -> Kind
+        ensures { λ r. ⌜ r ≡ kindOf self ⌝ }
+    {
+        let s = self.straps;
+        s.kind
     }
 
     pub fn stop(self, a: Action) -> Headed
@@ -104,6 +112,6 @@ impl Head {
     {
         let w = self.walk;
         let p = w.phase;
-        sequence::turn_of(p, self.regs.te, self.settings.framecnt, e)
+        sequence::turn_of(self.kind(), p, self.regs.te, self.settings.framecnt, e)
     }
 }

@@ -5,7 +5,10 @@ use mathlib.Core.List.{List, [], _∷_, map}
 use lib.Dec.{eqb}
 use lib.ListN.{getD, set}
 use Rattle.laws.specs.Pick.{if_then_else_}
+use Rattle.rules.specs.declared.parts.Device.{Device}
+use Rattle.rules.specs.declared.parts.Kind.the-variants.{Fm}
 use Rattle.rules.specs.Numbers.{done}
+use Rattle.rules.specs.Parts.{strapped, deviceBy}
 use Rattle.interrupt.specs.Interrupt.{beAfter}
 use Rattle.sequence.specs.Walk.{idle, noFlags}
 use Rattle.steps.specs.declared.answer.PartAnswer.{PartAnswer}
@@ -15,6 +18,7 @@ use Rattle.steps.specs.Keys.{writeForgets}
 use Rattle.head.specs.declared.state.Answer.{Answer}
 use Rattle.head.specs.declared.state.Head.{Head}
 use Rattle.head.specs.declared.state.Headed.{Headed}
+use Rattle.head.specs.Head.{kindOf}
 use Rattle.head.specs.State.{withKey}
 use Rattle.heads.specs.declared.Common.{Common}
 use Rattle.heads.specs.declared.Heads.{Heads}
@@ -26,6 +30,7 @@ abbrev pub blankHead : Head
 blankHead = record {
   regs = record { intmsk = 0; transel = 0; tranofs = 0; tp = false; te = false };
   key = false;
+  straps = strapped Fm;
   settings = record { framecnt = 0; refrate = 0; scll = 0; sclh = 0; mode = 0; timeout = 0 };
   ptrs = record { sla = 0; conf = 0; buf = 0; count = 0 };
   flags = noFlags;
@@ -35,6 +40,10 @@ blankHead = record {
 -- the head of channel c
 abbrev pub headAt : Heads → ℕ → Head
 headAt h c = getD (h .channels) c blankHead
+
+-- the part that the hardware reset chose, by the kind of channel 1
+abbrev pub deviceAt : Heads → Device
+deviceAt h = deviceBy (kindOf (headAt h 1))
 
 -- no channel has TE 1
 unfoldable pub unarmedOf : Heads → Bool

@@ -6,14 +6,16 @@ ghost use Prim.Native.Nat.{_<_};
 ghost use Rattle.laws.specs.Pick.{if_then_else_};
 ghost use Rattle.rules.specs.Registers.{activeOf};
 ghost use Rattle.interrupt.specs.Interrupt.{pendingOf};
+ghost use Rattle.head.specs.Head.{kindOf};
 ghost use Rattle.head.specs.State.{withKey};
-ghost use Rattle.heads.specs.Heads.{headAt, unarmedOf, forgottenHeads, keyedOf, headsLeft, oneTaken, oneStored, edgesStored};
+ghost use Rattle.heads.specs.Heads.{headAt, deviceAt, unarmedOf, forgottenHeads, keyedOf, headsLeft, oneTaken, oneStored, edgesStored};
 use head::Answer;
 use head::Head;
 use head::Headed;
 use interrupt::be_after;
 use interrupt::pending;
 use rules::DONE;
+use rules::Device;
 use steps::Act;
 use steps::PartAnswer;
 use steps::Target;
@@ -99,11 +101,19 @@ fn three_acts(x: Answer, y: Answer, z: Answer) -> [Act; 3]
 impl Heads {
     pub fn pending_at(self, c: usize) -> bool
         requires { ⌜ c < 3 ⌝ }
-        ensures { λ r. ⌜ r ≡ pendingOf (headAt self c .flags) (headAt self c .regs .intmsk) ⌝ }
+        ensures { λ r. ⌜ r ≡ pendingOf (kindOf (headAt self c)) (headAt self c .flags) (headAt self c .regs .intmsk) ⌝ }
     {
         let h = self.channels[c];
         let f = h.flags;
-        pending(f, h.regs.intmsk)
+        pending(h.kind(), f, h.regs.intmsk)
+    }
+
+    // The part that the hardware reset chose.
+    pub fn device(self) -> Device
+        ensures { λ r. ⌜ r ≡ deviceAt self ⌝ }
+    {
+        let h = self.channels[1];
+        rules::device_by(h.kind())
     }
 
     pub fn active_at(self, c: usize) -> bool

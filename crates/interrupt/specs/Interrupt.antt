@@ -4,8 +4,10 @@ use mathlib.Core.Bool.{Bool, true, false, not}
 use mathlib.Core.List.{List, [], _∷_}
 use lib.Dec.{eqb}
 use Rattle.laws.specs.Pick.{if_then_else_}
+use Rattle.rules.specs.declared.parts.Kind.{Kind}
 use Rattle.rules.specs.declared.state.Flags.{Flags}
 use Rattle.rules.specs.Numbers.{pastBuffer}
+use Rattle.rules.specs.Parts.{isFm}
 use Rattle.rules.specs.Registers.{bitOf, sdmsk, fldmsk, wemsk, remsk, femsk}
 
 -- CTRLINTMSK: 7 BE, 2 to 0 the channels; other bits kept 0
@@ -36,26 +38,30 @@ cause unless masked = if cause then not masked else false
 abbrev pub never : Bool
 never = false
 
+-- a mask bit that a UFm channel doesn't have: INTMSK bits 5 and 4 have no effect there (document 02, request Three)
+unfoldable pub onFm : Kind → Bool → Bool
+onFm kind masked = if isFm kind then masked else never
+
 -- some row holds
 unfoldable pub someOf : List Bool → Bool
 someOf [] = false
 someOf (row ∷ rows) = if row then true else someOf rows
 
 -- CHSTATUS beside INTMSK, bit 7 to bit 0
-unfoldable pub causesOf : Flags → ℕ → List Bool
-causesOf f mask =
+unfoldable pub causesOf : Kind → Flags → ℕ → List Bool
+causesOf kind f mask =
     (f .sd unless bitOf mask sdmsk) ∷  -- 7
     (f .fld unless bitOf mask fldmsk) ∷  -- 6
-    (f .we unless bitOf mask wemsk) ∷  -- 5
-    (f .re unless bitOf mask remsk) ∷  -- 4
+    (f .we unless onFm kind (bitOf mask wemsk)) ∷  -- 5
+    (f .re unless onFm kind (bitOf mask remsk)) ∷  -- 4
     (f .dae unless never) ∷  -- 3
     (f .cle unless never) ∷  -- 2
     (f .sse unless never) ∷  -- 1
     (f .fe unless bitOf mask femsk) ∷ []  -- 0
 
 -- channel pending (some CHSTATUS bit set whose INTMSK bit is 0)
-unfoldable pub pendingOf : Flags → ℕ → Bool
-pendingOf f mask = someOf (causesOf f mask)
+unfoldable pub pendingOf : Kind → Flags → ℕ → Bool
+pendingOf kind f mask = someOf (causesOf kind f mask)
 
 -- BE and the channels that are pending beside CTRLINTMSK, bit 7 and bits 2 to 0
 unfoldable pub pullsOf : Bool → ℕ → Bool → Bool → Bool → List Bool

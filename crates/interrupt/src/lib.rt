@@ -3,15 +3,17 @@ ghost use mathlib.Core.Path.{_≡_};
 ghost use Prim.Native.Nat.{_≤_};
 ghost use lib.Dec.{eqb};
 ghost use Rattle.rules.specs.Registers.{weigh, chstatusValue};
-ghost use Rattle.interrupt.specs.Interrupt.{ctrlKept, _unless_, someOf, causesOf, pendingOf, pullsOf, pulledBy, beAfter, maskIn};
+ghost use Rattle.interrupt.specs.Interrupt.{ctrlKept, _unless_, onFm, someOf, causesOf, pendingOf, pullsOf, pulledBy, beAfter, maskIn};
 use rules::FEMSK;
 use rules::FLDMSK;
 use rules::Flags;
+use rules::Kind;
 use rules::PAST_BUFFER;
 use rules::REMSK;
 use rules::SDMSK;
 use rules::WEMSK;
 use rules::bit;
+use rules::is_fm;
 
 // CTRLINTMSK as it is kept after v is written.
 pub fn ctrl_kept(v: u8) -> u8
@@ -40,6 +42,13 @@ fn unless(cause: bool, masked: bool) -> bool
 // In place of a mask bit: DAE, CLE and SSE can't be masked.
 const NEVER: bool = false;
 
+// A mask bit that a UFm channel doesn't have.
+fn on_fm(kind: Kind, masked: bool) -> bool
+    ensures { λ r. ⌜ r ≡ onFm kind masked ⌝ }
+{
+    if is_fm(kind) { masked } else { NEVER }
+}
+
 // Whether some row holds.
 fn some(rows: &[bool]) -> bool
     ensures { λ r. ⌜ r ≡ someOf (now (rows .entry)) ⌝ }
@@ -55,14 +64,14 @@ fn some(rows: &[bool]) -> bool
 }
 
 // CHSTATUS beside INTMSK, bit 7 to bit 0.
-fn causes(f: Flags, mask: u8) -> [bool; 8]
-    ensures { λ r. ⌜ r ≡ causesOf f mask ⌝ }
+fn causes(kind: Kind, f: Flags, mask: u8) -> [bool; 8]
+    ensures { λ r. ⌜ r ≡ causesOf kind f mask ⌝ }
 {
     [
         unless(f.sd, bit(mask, SDMSK)), // 7
         unless(f.fld, bit(mask, FLDMSK)), // 6
-        unless(f.we, bit(mask, WEMSK)), // 5
-        unless(f.re, bit(mask, REMSK)), // 4
+        unless(f.we, on_fm(kind, bit(mask, WEMSK))), // 5
+        unless(f.re, on_fm(kind, bit(mask, REMSK))), // 4
         unless(f.dae, NEVER), // 3
         unless(f.cle, NEVER), // 2
         unless(f.sse, NEVER), // 1
@@ -92,14 +101,14 @@ fn calm(f: Flags) -> bool
     low + high * 0x100000000 == 0
 }
 
-// Whether a channel with these flags and this INTMSK is pending. Most often none is set, and that is told sooner.
-pub fn pending(f: Flags, mask: u8) -> bool
-    ensures { λ r. ⌜ r ≡ pendingOf f mask ⌝ }
+// Whether a channel of this kind with these flags and this INTMSK is pending. Most often none is set, and that is told sooner.
+pub fn pending(kind: Kind, f: Flags, mask: u8) -> bool
+    ensures { λ r. ⌜ r ≡ pendingOf kind f mask ⌝ }
 {
     if calm(f) {
         return false;
     }
-    some(&causes(f, mask))
+    some(&causes(kind, f, mask))
 }
 
 // BE and the channels that are pending beside CTRLINTMSK, bit 7 and bits 2 to 0.

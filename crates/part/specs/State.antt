@@ -4,9 +4,13 @@ use mathlib.Core.Bool.{Bool, false}
 use mathlib.Core.List.{List, [], _∷_}
 use lib.ListN.{getD, replicate}
 use Rattle.laws.specs.Windows.{windowOf, putWindowOf}
+use Rattle.rules.specs.declared.parts.Device.{Device}
+use Rattle.rules.specs.declared.parts.Kind.the-variants.{Fm}
 use Rattle.rules.specs.Numbers.{bufferSize, memorySize, done}
+use Rattle.rules.specs.Parts.{strapped, otherKind, deviceBy}
 use Rattle.steps.specs.declared.answer.Act.{Act}
 use Rattle.steps.specs.Answer.{quiet}
+use Rattle.head.specs.Head.{kindOf}
 use Rattle.channel.specs.declared.state.Channel.{Channel}
 use Rattle.channel.specs.State.{fresh, withHead}
 use Rattle.heads.specs.Heads.{blankHead, keylessHead, allBut, commonLeft}
@@ -20,9 +24,14 @@ use Rattle.part.specs.declared.state.PartStepped.{PartStepped}
 unfoldable pub wiped : List ℕ
 wiped = replicate memorySize 0
 
--- three channels after a reset; CTRLSTATUS and CTRLINTMSK 00h; no key
-abbrev pub freshPart : Part
-freshPart = record { channels = fresh ∷ fresh ∷ fresh ∷ []; be = false; mask = 0; key = false }
+-- three channels after a reset, each of the part's own kind; CTRLSTATUS and CTRLINTMSK 00h; no key
+abbrev pub freshPart : Device → Part
+freshPart d = record {
+  channels = fresh (strapped Fm) ∷ fresh (strapped (otherKind d)) ∷ fresh (strapped (otherKind d)) ∷ [];
+  be = false;
+  mask = 0;
+  key = false;
+}
 
 -- ---- what a step answers: number, value, an action for each channel
 
@@ -65,6 +74,10 @@ blank = record {
 
 abbrev pub chan : Part → ℕ → Channel
 chan p c = getD (p .channels) c blank
+
+-- the part that the hardware reset chose, by the kind of channel 1
+abbrev pub deviceOf : Part → Device
+deviceOf p = deviceBy (kindOf (chan p 1 .head))
 
 -- what the part has beside its channels
 abbrev pub commonOf : Part → Common

@@ -6,6 +6,8 @@ use lib.Dec.{eqb}
 use lib.ListN.{length, set}
 use Rattle.laws.specs.Pick.{if_then_else_}
 use Rattle.rules.specs.Numbers.{memorySize, done, nowhere, outOfRange}
+use Rattle.bounds.specs.Range.{kindsIn}
+use Rattle.head.specs.Head.{kindOf}
 use Rattle.interrupt.specs.Interrupt.{beAfter, maskIn}
 use Rattle.rules.specs.declared.wires.Edge.{Edge}
 use Rattle.steps.specs.declared.map.Op.{Op}
@@ -73,12 +75,12 @@ triggerStep p edge =
     })
     done 0 (map (edgeAct edge) (p .channels))
 
--- ---- a step of the whole part; no. 1 for a channel above 2; the hardware reset does what CTRLPRESET does
+-- ---- a step of the whole part; no. 1 for a channel above 2; the hardware reset does what CTRLPRESET does, and chooses the part
 unfoldable pub allServed : Part → Wide → PartStepped
 allServed p (CtrlWrite reg v) = ctrlPut p reg v
 allServed p (CtrlRead reg) = ctrlRead p reg
 allServed p (AllTrigger edge) = triggerStep p edge
-allServed p AllReset = plainPart freshPart
+allServed p (AllReset d) = plainPart (freshPart d)
 allServed p Beyond = refusedPart p nowhere
 
 -- and the bytes
@@ -86,7 +88,7 @@ unfoldable pub allStored : Part → List ℕ → Wide → List ℕ
 allStored p m (CtrlWrite reg v) = ctrlStore p m reg v
 allStored p m (CtrlRead reg) = m
 allStored p m (AllTrigger edge) = m
-allStored p m AllReset = wiped
+allStored p m (AllReset d) = wiped
 allStored p m Beyond = m
 
 -- ---- whom the step concerns
@@ -116,9 +118,13 @@ unfoldable pub channelsIn : List Channel → Bool
 channelsIn [] = true
 channelsIn (c ∷ l) = if inRange c then channelsIn l else false
 
--- the part is in range: every channel is, and no bit of CTRLINTMSK that is kept 0 is set
+-- the channels' kinds are those of one part
+abbrev pub ownKinds : Part → Bool
+ownKinds p = kindsIn (kindOf (chan p 0 .head)) (kindOf (chan p 1 .head)) (kindOf (chan p 2 .head))
+
+-- the part is in range: every channel is, no bit of CTRLINTMSK that is kept 0 is set, and the kinds are one part's
 unfoldable pub partIn : Part → Bool
-partIn p = if channelsIn (p .channels) then maskIn (p .mask) else false
+partIn p = if channelsIn (p .channels) then (if maskIn (p .mask) then ownKinds p else false) else false
 
 -- a memory of 13,056 bytes and a part in range are accepted
 unfoldable pub accepts : Part → ℕ → Bool

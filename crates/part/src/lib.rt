@@ -1,4 +1,4 @@
-// The PCA9663: three channels over one lent memory.
+// The part, a PCA9663 or a PCU9669: three channels over one lent memory.
 mod rows;
 mod state;
 mod step;

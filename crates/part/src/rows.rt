@@ -28,6 +28,7 @@ use interrupt::ctrl_kept;
 use interrupt::pulled;
 use rules::BUFFER;
 use rules::DONE;
+use rules::Device;
 use rules::Edge;
 use rules::NOWHERE;
 use rules::READ_ONLY;
@@ -192,6 +193,12 @@ fn read_ctrlstatus(heads: Heads) -> HeadsStepped
     tell(heads.with_be(false), DONE, v)
 }
 
+fn read_id(heads: Heads) -> HeadsStepped
+    ensures { λ r. ⌜ Tells (λ p. ctrlRead p Ctrl.DeviceId) heads r ⌝ }
+{
+    tell(heads, DONE, rules::device_id(heads.device()))
+}
+
 // A read at F0h to FFh.
 fn read_ctrl(heads: Heads, reg: Ctrl) -> HeadsStepped
     ensures { λ r. ⌜ Tells (λ p. ctrlRead p reg) heads r ⌝ }
@@ -200,7 +207,7 @@ fn read_ctrl(heads: Heads, reg: Ctrl) -> HeadsStepped
         Ctrl::Ctrlstatus => read_ctrlstatus(heads),
         Ctrl::Ctrlintmsk => tell(heads, DONE, heads.common.mask),
         Ctrl::Reserved => tell(heads, DONE, 0x00),
-        Ctrl::DeviceId => tell(heads, DONE, 0x63),
+        Ctrl::DeviceId => read_id(heads),
         Ctrl::Ctrlpreset => tell(heads, DONE, 0x00),
         Ctrl::Nothing => tell(heads, NOWHERE, 0),
         Ctrl::Ctrlrdy => tell(heads, DONE, 0x00),
@@ -244,7 +251,7 @@ fn put_ctrl(
 {
     let preset = is_ctrlpreset(reg);
     if rules::resets(preset, v, heads.common.key) {
-        return reset(sla, lens, status, counts, mem);
+        return reset(heads.device(), sla, lens, status, counts, mem);
     }
     let key = rules::key_after(preset, v);
     write_ctrl(heads.with_key(key), reg, v)
@@ -307,7 +314,7 @@ pub fn all(
         Wide::CtrlWrite(reg, v) => { put_ctrl(heads, sla, lens, status, counts, mem, reg, v) }
         Wide::CtrlRead(reg) => read_ctrl(heads, reg),
         Wide::AllTrigger(edge) => { trigger(heads, sla, lens, status, counts, edge) }
-        Wide::AllReset => reset(sla, lens, status, counts, mem),
+        Wide::AllReset(d) => reset(d, sla, lens, status, counts, mem),
         Wide::Beyond => tell(heads, NOWHERE, 0),
     }
 }
@@ -385,8 +392,9 @@ fn edge_at(
     trigger_lent(h, &sla[c], &lens[c], &mut status[c], &mut counts[c], edge)
 }
 
-// The reset of the whole part, with every byte.
+// The reset of the whole part, with every byte: of this part.
 fn reset(
+    d: Device,
     sla: &mut [[u8; 64]; 3],
     lens: &mut [[u8; 65]; 3],
     status: &mut [[u8; 64]; 3],
@@ -394,8 +402,8 @@ fn reset(
     mem: &mut [u8],
 ) -> HeadsStepped
     requires { ⌜ Three (rowsIn sla lens status counts) × (length (now mem) ≡ memorySize) ⌝ }
-    ensures { λ r. ⌜ Gives (plainPart freshPart) r (rowsLeft sla lens status counts) × (now (mem .exit) ≡ wiped) ⌝ }
+    ensures { λ r. ⌜ Gives (plainPart (freshPart d)) r (rowsLeft sla lens status counts) × (now (mem .exit) ≡ wiped) ⌝ }
 {
     rules::wipe(mem);
-    tell(spread(Part::new(), sla, lens, status, counts), DONE, 0)
+    tell(spread(Part::new(d), sla, lens, status, counts), DONE, 0)
 }

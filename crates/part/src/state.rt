@@ -2,6 +2,10 @@
 ghost use mathlib.Core.Path.{_≡_};
 ghost use Rattle.part.specs.State.{freshPart, refusedPart};
 use channel::Channel;
+use rules::Device;
+use rules::Kind;
+use rules::Straps;
+use rules::other_kind;
 use steps::PartAnswer;
 use steps::no_acts;
 
@@ -21,12 +25,15 @@ pub struct PartStepped {
 
 impl Part {
     // The part as a reset leaves it.
-    pub fn new() -> Self
-        ensures { λ r. ⌜ r ≡ freshPart ⌝ }
+    pub fn new(d: Device) -> Self
+        ensures { λ r. ⌜ r ≡ freshPart d ⌝ }
     {
-        let c = Channel::new();
+        let first = Channel::new(Straps { kind: Kind::Fm });
+        let other = Channel::new(Straps {
+            kind: other_kind(d),
+        });
         Part {
-            channels: [c, c, c],
+            channels: [first, other, other],
             be: false,
             mask: 0,
             key: false,

@@ -3,7 +3,7 @@ ghost use mathlib.Core.Bool.{true};
 ghost use mathlib.Core.Path.{_≡_};
 ghost use Prim.Native.Nat.{_<_};
 ghost use Rattle.part.specs.Registers.{interruptOf};
-ghost use Rattle.part.specs.Step.{channelsIn, partIn, accepts, partStep, partBytes};
+ghost use Rattle.part.specs.Step.{channelsIn, ownKinds, partIn, accepts, partStep, partBytes};
 ghost use Rattle.part.specs.Facts.{Whole};
 use crate::rows::gather;
 use crate::rows::interrupt_level;
@@ -11,6 +11,7 @@ use crate::rows::serve;
 use crate::rows::spread;
 use crate::state::Part;
 use crate::state::PartStepped;
+use bounds::kinds_in;
 use interrupt::mask_in;
 use rules::MEMORY;
 use rules::OUT_OF_RANGE;
@@ -33,12 +34,30 @@ impl Part {
         true
     }
 
-    // Whether the part is in range: each channel, and CTRLINTMSK.
+    // Whether the channels' kinds are those of one part.
+    fn own_kinds(self) -> bool
+        ensures { λ r. ⌜ r ≡ ownKinds self ⌝ }
+    {
+        let channels = self.channels;
+        let first = channels[0];
+        let second = channels[1];
+        let third = channels[2];
+        let a = first.head;
+        let b = second.head;
+        let d = third.head;
+        kinds_in(a.kind(), b.kind(), d.kind())
+    }
+
+    // Whether the part is in range: each channel, CTRLINTMSK, and the kinds.
     pub fn in_range(self) -> bool
         ensures { λ r. ⌜ r ≡ partIn self ⌝ }
     {
         if self.channels_in() {
-            mask_in(self.mask)
+            if mask_in(self.mask) {
+                self.own_kinds()
+            } else {
+                false
+            }
         } else {
             false
         }

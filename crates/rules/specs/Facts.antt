@@ -1,7 +1,10 @@
 -- Facts that functions hand to each other, beside what they return. Nobody has to believe them: each is proved where it is promised.
 use Prim.Native.Nat.{ℕ, _<_, _≤_}
+use mathlib.Core.Bool.{Bool}
 use mathlib.Core.List.{List}
+use mathlib.Core.Path.{_≡_}
 use lib.ListN.{getD}
+use Rattle.rules.specs.declared.parts.Kind.{Kind}
 use Rattle.rules.specs.declared.registers.Register.{Register}
 use Rattle.rules.specs.declared.registers.Register.the-variants.{Status, Control, Chstatus, Intmsk, Slatable, Tranconfig, Data, Transel, Tranofs, Bytecount, Setting, Preset}
 use Rattle.rules.specs.declared.registers.Place.{Place}
@@ -9,7 +12,7 @@ use Rattle.rules.specs.declared.registers.Place.the-variants.{Here, Else
 use Rattle.rules.specs.declared.access.Spot.{Spot}
 use Rattle.rules.specs.declared.access.Spot.the-variants.{At, Outside}
 use Rattle.rules.specs.Numbers.{bufferSize}
-use Rattle.rules.specs.Tables.{sumOf}
+use Rattle.rules.specs.Tables.{longestSkipped, skippedOf, sumOf}
 
 -- a register of which there are several is one of them: 64 STATUS, 6 settings
 abbrev pub Known : Register → Type 0
@@ -35,6 +38,10 @@ KnownPlace Elsewhere = Unit {0}
 abbrev pub InBuffer : Spot → Type 0
 InBuffer (At i) = i < bufferSize
 InBuffer Outside = Unit {0}
+
+-- whether a transaction is skipped, told by the longest read that is
+abbrev pub Skips : ℕ → ℕ → ℕ → Bool → Type 0
+Skips most sla len r = (kind : Kind) → most ≡ longestSkipped kind → r ≡ skippedOf kind sla len
 
 -- transaction n is one of a frame that fits: what the range says of it
 pub record Running (lens : List ℕ) (n : ℕ) : Type 0 where

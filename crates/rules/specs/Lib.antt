@@ -1,5 +1,6 @@
 pub mod Numbers
 pub mod Registers
+pub mod Parts
 pub mod Tables
 pub mod Access
 pub mod Tags

@@ -7,7 +7,7 @@ use Rattle.laws.specs.Pick.{if_then_else_}
 use Rattle.rules.specs.declared.wires.Action.{Action}
 use Rattle.rules.specs.declared.wires.Action.the-variants.{Nothing, S, R, D, C, A, Np, Nr, P}
 use Rattle.rules.specs.declared.wires.Event.{Event}
-use Rattle.rules.specs.declared.wires.Event.the-variants.{Ninth, Byte, Tick, Stop, Sda, Scl, Ill}
+use Rattle.rules.specs.declared.wires.Event.the-variants.{Ninth, Byte, Tick, Stop, Sda, Scl, Ill, Sent}
 use Rattle.rules.specs.declared.wires.Level.the-variants.{Low, High}
 use Rattle.rules.specs.declared.tags.Tag.{Tag}
 use Rattle.rules.specs.declared.tags.Decoded.{Decoded}
@@ -29,7 +29,7 @@ actionTag Np = tag 6 0
 actionTag (Nr b) = tag 7 b
 actionTag P = tag 8 0
 
--- 9 ACK, 10 BYTE, 11 NACK, 12 TICK, 13 STOP, 14 SDA, 15 SCL, 16 ILL; kind 10 carries a value, the others 0
+-- 9 ACK, 10 BYTE, 11 NACK, 12 TICK, 13 STOP, 14 SDA, 15 SCL, 16 ILL, 20 SENT; kind 10 carries a value, the others 0
 abbrev pub eventTag : Event → Tag
 eventTag (Ninth Low) = tag 9 0
 eventTag (Byte b) = tag 10 b
@@ -39,6 +39,7 @@ eventTag Stop = tag 13 0
 eventTag Sda = tag 14 0
 eventTag Scl = tag 15 0
 eventTag Ill = tag 16 0
+eventTag Sent = tag 20 0
 
 -- ---- from a tag back to the event
 
@@ -57,7 +58,7 @@ among t (e ∷ l) = knownAs t e (among t l)
 
 -- all events, BYTE with the byte v
 abbrev pub eventsWith : ℕ → List Event
-eventsWith v = Ninth Low ∷ Byte v ∷ Ninth High ∷ Tick ∷ Stop ∷ Sda ∷ Scl ∷ Ill ∷ []
+eventsWith v = Ninth Low ∷ Byte v ∷ Ninth High ∷ Tick ∷ Stop ∷ Sda ∷ Scl ∷ Ill ∷ Sent ∷ []
 
 -- an action's kind, an unknown kind and a value where none belongs are no event's
 abbrev pub eventOf : Tag → Decoded

@@ -1,6 +1,8 @@
-// The rules of document 01 that need no record of a channel: its enums and parts, and the decisions and loops on registers and tables; and document 02's numbers of actions and events.
+// The rules of document 01 that need no record of a channel: its enums and parts, and the decisions and loops on registers and tables; and document 02's two parts, and its numbers of
+// actions and events.
 mod access;
 mod numbers;
+mod parts;
 mod registers;
 mod state;
 mod tables;
@@ -41,6 +43,13 @@ pub use numbers::PAST_TABLE;
 pub use numbers::READ_ONLY;
 pub use numbers::UNDERWAY;
 pub use numbers::UNREADABLE;
+pub use parts::Device;
+pub use parts::Kind;
+pub use parts::Straps;
+pub use parts::device_by;
+pub use parts::device_id;
+pub use parts::is_fm;
+pub use parts::other_kind;
 pub use registers::Command;
 pub use registers::FEMSK;
 pub use registers::FLDMSK;

@@ -2,9 +2,12 @@
 ghost use mathlib.Core.Path.{_≡_};
 ghost use Prim.Native.Nat.{_*_, _<_, _≤_};
 ghost use lib.ListN.{getD, length, replicate};
-ghost use Rattle.rules.specs.Tables.{startOf, fitting, readsOf, skippedOf, firstSent, marked};
+ghost use Rattle.rules.specs.Facts.{Skips};
+ghost use Rattle.rules.specs.Tables.{startOf, fitting, readsOf, longestSkipped, skippedOf, firstSent, marked};
 use crate::numbers::BUFFER;
 use crate::numbers::DONE_STATUS;
+use crate::parts::Kind;
+use crate::parts::is_fm;
 
 // A byte as an index: the number, and that it is below 256, which a caller's arithmetic wants.
 pub fn byte(x: u8) -> usize
@@ -42,24 +45,38 @@ pub fn reads(sla: u8) -> bool
     sla % 2 == 1
 }
 
-// A read of length 0 is skipped as done.
-pub fn skipped(sla: u8, len: u8) -> bool
-    ensures { λ r. ⌜ r ≡ skippedOf sla len ⌝ }
+// The longest read that is skipped: none but one of length 0, and of a UFm channel any.
+fn longest_skipped(kind: Kind) -> u8
+    ensures { λ r. ⌜ r ≡ longestSkipped kind ⌝ }
 {
-    if reads(sla) { len == 0 } else { false }
+    if is_fm(kind) { 0 } else { 255 }
+}
+
+// Whether a transaction is skipped as done, on a channel that skips reads up to that length: so a loop asks for the kind once.
+fn skips(most: u8, sla: u8, len: u8) -> bool
+    ensures { λ r. ⌜ Skips most sla len r ⌝ }
+{
+    if reads(sla) { len <= most } else { false }
+}
+
+pub fn skipped(kind: Kind, sla: u8, len: u8) -> bool
+    ensures { λ r. ⌜ r ≡ skippedOf kind sla len ⌝ }
+{
+    skips(longest_skipped(kind), sla, len)
 }
 
 // The first transaction from `from` that is not skipped, or the count.
-pub fn first_sent(sla: &[u8; 64], lens: &[u8; 65], from: usize, count: usize) -> usize
+pub fn first_sent(kind: Kind, sla: &[u8; 64], lens: &[u8; 65], from: usize, count: usize) -> usize
     requires { ⌜ (from ≤ count) × (count ≤ 64) ⌝ }
-    ensures { λ r. ⌜ (r ≡ firstSent (now (sla .entry)) (now (lens .entry)) from count) × (from ≤ r) × (r ≤ count) ⌝ }
+    ensures { λ r. ⌜ (r ≡ firstSent kind (now (sla .entry)) (now (lens .entry)) from count) × (from ≤ r) × (r ≤ count) ⌝ }
 {
+    let most = longest_skipped(kind);
     let mut i = from;
     loop {
         if count <= i {
             break count;
         }
-        if !skipped(sla[i], lens[i + 1]) {
+        if !skips(most, sla[i], lens[i + 1]) {
             break i;
         }
         i += 1;

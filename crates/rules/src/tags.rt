@@ -57,6 +57,7 @@ pub fn event_of(kind: u8, value: u8) -> Decoded
         14 => plain(Event::Sda, value),
         15 => plain(Event::Scl, value),
         16 => plain(Event::Ill, value),
+        20 => plain(Event::Sent, value),
         _ => Decoded::NoEvent,
     }
 }

@@ -19,7 +19,7 @@ pub enum Level {
     High,
 }
 
-// What the wires did, or the bench's clock. ACK and NACK are one event, the ninth clock with the level seen.
+// What the wires did, or the bench's clock. ACK and NACK are one event, the ninth clock with the level seen; where nobody acknowledges, that a byte went out is SENT.
 pub enum Event {
     Ninth(Level),
     Byte(u8),
@@ -28,6 +28,7 @@ pub enum Event {
     Sda,
     Scl,
     Ill,
+    Sent,
 }
 
 // An edge of the trigger.

@@ -5,11 +5,12 @@ use mathlib.Core.List.{List}
 use lib.Dec.{eqb, ltb}
 use lib.ListN.{getD}
 use Rattle.laws.specs.Pick.{if_then_else_}
+use Rattle.rules.specs.declared.parts.Kind.{Kind}
 use Rattle.rules.specs.declared.state.Phase.{Phase}
 use Rattle.rules.specs.declared.state.Phase.the-variants.{Idle, Address, Sending, Receiving, Stopping, Waiting}
 use Rattle.rules.specs.declared.registers.Command.{Command}
 use Rattle.rules.specs.declared.wires.Event.{Event}
-use Rattle.rules.specs.declared.wires.Event.the-variants.{Ninth, Byte, Tick, Stop, Sda, Scl, Ill}
+use Rattle.rules.specs.declared.wires.Event.the-variants.{Ninth, Byte, Tick, Stop, Sda, Scl, Ill, Sent}
 use Rattle.rules.specs.declared.wires.Level.{Level}
 use Rattle.rules.specs.declared.wires.Level.the-variants.{Low, High}
 use Rattle.rules.specs.declared.wires.Edge.{Edge}
@@ -33,6 +34,7 @@ use Rattle.sequence.specs.declared.wires.Ending.{Ending}
 use Rattle.sequence.specs.declared.wires.Ending.the-variants.{Fe, Error, Sd, Wait}
 use Rattle.sequence.specs.declared.wires.Ask.{Ask}
 use Rattle.sequence.specs.declared.wires.Ask.the-variants.{Nothing, Overrun, Begin as BeginAsk, Wait as WaitAsk, Sto, Seq, Leave}
+use Rattle.rules.specs.Parts.{isFm}
 use Rattle.rules.specs.Registers.{bitOf, wemsk, remsk}
 use Rattle.rules.specs.Tables.{firstSent}
 
@@ -123,8 +125,8 @@ unfoldable pub nextOf : Bool → ℕ → ℕ → Next
 nextOf halt n len = if ltb n len then (if halt then Cut else More) else Over
 
 -- behind transaction n the walk goes on to the next that is not skipped, or the count; with FE or STO recorded it does not
-unfoldable pub reachOf : Bool → ℕ → List ℕ → List ℕ → ℕ
-reachOf halt n sla lens = if halt then n + 1 else firstSent sla lens (n + 1) (getD lens 0 0)
+unfoldable pub reachOf : Kind → Bool → ℕ → List ℕ → List ℕ → ℕ
+reachOf kind halt n sla lens = if halt then n + 1 else firstSent kind sla lens (n + 1) (getD lens 0 0)
 
 -- P with FE or STO recorded, and after the last; else the next transaction
 unfoldable pub moveOf : Bool → ℕ → ℕ → Move
@@ -187,15 +189,30 @@ sclTurn (Receiving n) = Faulty Cle
 sclTurn Stopping = Faulty Cle
 sclTurn Waiting = Faulty Cle
 
--- ILL (any phase) SSE. What each event comes to
-unfoldable pub turnOf : Phase → Bool → ℕ → Event → Turn
-turnOf p te framecnt (Ninth l) = ninthTurn p l
-turnOf p te framecnt (Byte b) = byteTurn p b
-turnOf p te framecnt Tick = tickTurn p te framecnt
-turnOf p te framecnt Stop = stopTurn p
-turnOf p te framecnt Sda = sdaTurn p
-turnOf p te framecnt Scl = sclTurn p
-turnOf p te framecnt Ill = Faulty Sse
+-- ILL (any phase) SSE. What each event comes to; SENT stands in place of ACK
+unfoldable pub heardTurn : Phase → Bool → ℕ → Event → Turn
+heardTurn p te framecnt (Ninth l) = ninthTurn p l
+heardTurn p te framecnt (Byte b) = byteTurn p b
+heardTurn p te framecnt Tick = tickTurn p te framecnt
+heardTurn p te framecnt Stop = stopTurn p
+heardTurn p te framecnt Sda = sdaTurn p
+heardTurn p te framecnt Scl = sclTurn p
+heardTurn p te framecnt Ill = Faulty Sse
+heardTurn p te framecnt Sent = ackTurn p
+
+-- document 02, request Three: ACK, NACK, BYTE, SDA and SCL on a UFm channel, and SENT on channel 0 or on a PCA9663, are no. 7
+abbrev pub hearsOf : Kind → Event → Bool
+hearsOf kind (Ninth l) = isFm kind
+hearsOf kind (Byte b) = isFm kind
+hearsOf kind Tick = true
+hearsOf kind Stop = true
+hearsOf kind Sda = isFm kind
+hearsOf kind Scl = isFm kind
+hearsOf kind Ill = true
+hearsOf kind Sent = not (isFm kind)
+
+unfoldable pub turnOf : Kind → Phase → Bool → ℕ → Event → Turn
+turnOf kind p te framecnt e = if hearsOf kind e then heardTurn p te framecnt e else Unawaited
 
 -- ---- a frame's end
 

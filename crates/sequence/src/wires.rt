@@ -6,18 +6,20 @@ ghost use Rattle.rules.specs.Numbers.{bufferSize};
 ghost use Rattle.rules.specs.Tables.{startOf};
 ghost use Rattle.sequence.specs.Wires.{stopAsked, startAsked, leaveAsked, askedIn, askOf, beginningOf, againBy};
 ghost use Rattle.sequence.specs.Wires.{ackTurn, byteTurn, nackTurn, ninthTurn, maskedOf, haltedOf, nextOf, reachOf, moveOf, stopBy};
-ghost use Rattle.sequence.specs.Wires.{tickingOf, beatOf, beatTurn, tickTurn, stopTurn, sdaTurn, sclTurn, turnOf, endingOf, restOf, fldAfter, matchesOf, edgeBeat};
+ghost use Rattle.sequence.specs.Wires.{tickingOf, beatOf, beatTurn, tickTurn, stopTurn, sdaTurn, sclTurn, heardTurn, hearsOf, turnOf, endingOf, restOf, fldAfter, matchesOf, edgeBeat};
 ghost use Rattle.sequence.specs.Facts.{Counting, Ready, Exists};
 use rules::Action;
 use rules::Command;
 use rules::Edge;
 use rules::Event;
+use rules::Kind;
 use rules::Level;
 use rules::Phase;
 use rules::REMSK;
 use rules::WEMSK;
 use rules::bit;
 use rules::first_sent;
+use rules::is_fm;
 
 // What is left of a write to CONTROL after TP, TE and the pointer resets.
 pub enum Ask {
@@ -268,15 +270,15 @@ pub fn store(lens: &[u8; 65], counts: &[u8; 64], mem: &mut [u8], n: usize, b: u8
 }
 
 // How far the walk goes on behind transaction n.
-pub fn reach(halt: bool, n: usize, sla: &[u8; 64], lens: &[u8; 65]) -> usize
+pub fn reach(kind: Kind, halt: bool, n: usize, sla: &[u8; 64], lens: &[u8; 65]) -> usize
     requires { ⌜ (n < getD (now lens) 0 0) × (getD (now lens) 0 0 ≤ 64) ⌝ }
-    ensures { λ r. ⌜ (r ≡ reachOf halt n (now (sla .entry)) (now (lens .entry))) × (n + 1 ≤ r) × (r ≤ 64) ⌝ }
+    ensures { λ r. ⌜ (r ≡ reachOf kind halt n (now (sla .entry)) (now (lens .entry))) × (n + 1 ≤ r) × (r ≤ 64) ⌝ }
 {
     if halt {
         return n + 1;
     }
     let count = lens[0];
-    first_sent(sla, lens, n + 1, count as usize)
+    first_sent(kind, sla, lens, n + 1, count as usize)
 }
 
 // Either a stop or the transaction to send.
@@ -383,9 +385,9 @@ fn scl_turn(p: Phase) -> Turn
     }
 }
 
-// What an event comes to.
-pub fn turn_of(p: Phase, te: bool, framecnt: u8, e: Event) -> Turn
-    ensures { λ r. ⌜ r ≡ turnOf p te framecnt e ⌝ }
+// What an event comes to where it is heard.
+fn heard_turn(p: Phase, te: bool, framecnt: u8, e: Event) -> Turn
+    ensures { λ r. ⌜ r ≡ heardTurn p te framecnt e ⌝ }
 {
     match e {
         Event::Ninth(l) => ninth_turn(p, l),
@@ -395,6 +397,35 @@ pub fn turn_of(p: Phase, te: bool, framecnt: u8, e: Event) -> Turn
         Event::Sda => sda_turn(p),
         Event::Scl => scl_turn(p),
         Event::Ill => Turn::Fault(Fault::Sse),
+        Event::Sent => ack_turn(p),
+    }
+}
+
+// Whether a channel of this kind hears an event at all.
+fn hears(kind: Kind, e: Event) -> bool
+    ensures { λ r. ⌜ r ≡ hearsOf kind e ⌝ }
+{
+    let fm = is_fm(kind);
+    match e {
+        Event::Ninth(_) => fm,
+        Event::Byte(_) => fm,
+        Event::Tick => true,
+        Event::Stop => true,
+        Event::Sda => fm,
+        Event::Scl => fm,
+        Event::Ill => true,
+        Event::Sent => !fm,
+    }
+}
+
+// What an event comes to.
+pub fn turn_of(kind: Kind, p: Phase, te: bool, framecnt: u8, e: Event) -> Turn
+    ensures { λ r. ⌜ r ≡ turnOf kind p te framecnt e ⌝ }
+{
+    if hears(kind, e) {
+        heard_turn(p, te, framecnt, e)
+    } else {
+        Turn::Unawaited
     }
 }
 

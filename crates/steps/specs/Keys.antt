@@ -32,7 +32,7 @@ abbrev pub wideWrites : Wide → Bool
 wideWrites (CtrlWrite reg v) = true
 wideWrites (CtrlRead reg) = false
 wideWrites (AllTrigger edge) = false
-wideWrites AllReset = false
+wideWrites (AllReset d) = false
 wideWrites Beyond = false
 
 -- 'forgets every other pending A5h': `but x c` is x with every key forgotten but that of channel c, or for c 3 that of CTRLPRESET; what becomes of this one, its

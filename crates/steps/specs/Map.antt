@@ -44,4 +44,4 @@ targetOf (Write a v) = writeTarget a v
 targetOf (Read a) = readTarget a
 targetOf (Wire c e) = wireTarget c e
 targetOf (Trigger edge) = All (AllTrigger edge)
-targetOf Reset = All AllReset
+targetOf (Reset d) = All (AllReset d)

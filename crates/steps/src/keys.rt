@@ -39,7 +39,7 @@ pub fn wide_writes(t: Wide) -> bool
         Wide::CtrlWrite(_, _) => true,
         Wide::CtrlRead(_) => false,
         Wide::AllTrigger(_) => false,
-        Wide::AllReset => false,
+        Wide::AllReset(_) => false,
         Wide::Beyond => false,
     }
 }

@@ -2,6 +2,7 @@
 ghost use mathlib.Core.Path.{_≡_};
 ghost use Rattle.steps.specs.Map.{channelAt, ctrlAt, writeTarget, readTarget, wireTarget, targetOf};
 ghost use Rattle.steps.specs.Facts.{InPart};
+use rules::Device;
 use rules::Edge;
 use rules::Event;
 
@@ -12,13 +13,13 @@ pub enum Op {
     Wire(Event),
 }
 
-// A step of the part: the processor writes a byte at an address or reads one, a channel's wires did something, an edge of the trigger, the hardware reset.
+// A step of the part: the processor writes a byte at an address or reads one, a channel's wires did something, an edge of the trigger, the hardware reset, which chooses the part.
 pub enum Step {
     Write(u8, u8),
     Read(u8),
     Wire(u8, Event),
     Trigger(Edge),
-    Reset,
+    Reset(Device),
 }
 
 // A register of the whole part, at F0h to FFh.
@@ -37,7 +38,7 @@ pub enum Wide {
     CtrlWrite(Ctrl, u8),
     CtrlRead(Ctrl),
     AllTrigger(Edge),
-    AllReset,
+    AllReset(Device),
     Beyond,
 }
 
@@ -114,6 +115,6 @@ pub fn target_of(s: Step) -> Target
         Step::Read(a) => read_target(a),
         Step::Wire(c, e) => wire_target(c, e),
         Step::Trigger(edge) => Target::All(Wide::AllTrigger(edge)),
-        Step::Reset => Target::All(Wide::AllReset),
+        Step::Reset(d) => Target::All(Wide::AllReset(d)),
     }
 }

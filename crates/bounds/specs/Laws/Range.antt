@@ -12,13 +12,19 @@ use lib.ListN.{getD, set}
 use lib.Seq.{getD-set-other}
 use lib.Dec.{eqb}
 use Rattle.laws.specs.Pick.{if_then_else_}
-use Rattle.laws.specs.Cases.{past, both, on, with, left-more, left-none}
+use Rattle.laws.specs.Cases.{past, both, on, with, left-more, left-none, false-not-true}
+use Rattle.rules.specs.declared.parts.Device.{Device}
+use Rattle.rules.specs.declared.parts.Device.the-variants.{Pca9663, Pcu9669}
 use Rattle.rules.specs.declared.state.Phase.{Phase}
+use Rattle.rules.specs.declared.state.Phase.the-variants.{Receiving}
+use Rattle.rules.specs.declared.parts.Kind.{Kind}
+use Rattle.rules.specs.declared.parts.Kind.the-variants.{Fm, Ufm}
 use Rattle.rules.specs.declared.state.Ptrs.{Ptrs}
 use Rattle.rules.specs.Numbers.{bufferSize}
 use Rattle.rules.specs.Facts.{Running}
-use Rattle.bounds.specs.Range.{pointersIn, registersIn, standing, countedIn, clearFrom, clearAfter, countsIn, frameAt}
-use Rattle.rules.specs.Tables.{fitting, skippedOf, firstSent}
+use Rattle.bounds.specs.Range.{pointersIn, registersIn, standing, countedIn, clearFrom, clearAfter, countsIn, frameAt, frameIn, kindsIn}
+use Rattle.rules.specs.Parts.{otherKind, deviceBy}
+use Rattle.rules.specs.Tables.{fitting, readsOf, readSkipped, skippedOf, firstSent}
 use Rattle.rules.specs.Laws.Tables.{first-from, first-unskipped}
 
 -- ---- the pointers, as facts
@@ -64,9 +70,9 @@ unfolding registersIn
 of-registers count sel mask a b e = on _ _ (le-ltb _ _ a) (on _ _ (le-ltb _ _ b) (eq-eqb _ _ e))
 
 -- ---- a transaction at which a frame stands is one of the table's
-pub standing-below : (n : ℕ) (sla lens : List ℕ) (r : Bool) → r ≡ standing n sla lens → r ≡ true → getD lens 0 0 ≤ 64 → n < 64
+pub standing-below : (kind : Kind) (n : ℕ) (sla lens : List ℕ) (r : Bool) → r ≡ standing kind n sla lens → r ≡ true → getD lens 0 0 ≤ 64 → n < 64
 unfolding standing
-standing-below n sla lens r e t k =
+standing-below kind n sla lens r e t k =
     let h = ltb-true n (getD lens 0 0) (both _ _ (both _ _ (sym e ∙ t) .1) .0) in omega arith
 
 pub ruleset ranges = (standing-below, needs)
@@ -111,16 +117,16 @@ pub at-clear : (l : List ℕ) (i : ℕ) → i ≤ 64 → ((k : ℕ) → i ≤ k 
 at-clear l i b f = from-clear l i (64 - i) (λ k h g. f k h (omega arith))
 
 -- ---- a frame that stands at transaction n, as facts
-pub record Stands (sla lens counts : List ℕ) (n : ℕ) : Type 0 where
+pub record Stands (kind : Kind) (sla lens counts : List ℕ) (n : ℕ) : Type 0 where
   pub below : n < getD lens 0 0
   pub few : getD lens 0 0 ≤ 64
   pub fits : fitting lens ≡ true
-  pub sent : skippedOf (getD sla n 0) (getD lens (n + 1) 0) ≡ false
+  pub sent : skippedOf kind (getD sla n 0) (getD lens (n + 1) 0) ≡ false
   pub clear : (k : ℕ) → n < k → k < 64 → getD counts k 0 ≡ 0
 
-pub stands-of : (p : Phase) (sla lens counts : List ℕ) (n : ℕ) → getD lens 0 0 ≤ 64 → frameAt p n sla lens counts ≡ true → Stands sla lens counts n
+pub stands-of : (kind : Kind) (p : Phase) (sla lens counts : List ℕ) (n : ℕ) → getD lens 0 0 ≤ 64 → frameAt kind p n sla lens counts ≡ true → Stands kind sla lens counts n
 unfolding frameAt standing countsIn
-stands-of p sla lens counts n few e =
+stands-of kind p sla lens counts n few e =
     let f = both _ _ e in
     let a = both _ _ (f .0) in
     let b = both _ _ (a .1) in
@@ -133,43 +139,65 @@ stands-of p sla lens counts n few e =
     }
 
 -- and what it says of the current byte
-pub frame-counted : (p : Phase) (sla lens counts : List ℕ) (n : ℕ) → frameAt p n sla lens counts ≡ true
+pub frame-counted : (kind : Kind) (p : Phase) (sla lens counts : List ℕ) (n : ℕ) → frameAt kind p n sla lens counts ≡ true
     → countedIn p (getD sla n 0) (getD lens (n + 1) 0) (getD counts n 0) ≡ true
 unfolding frameAt countsIn
-frame-counted p sla lens counts n e = both _ _ (both _ _ e .1) .0
+frame-counted kind p sla lens counts n e = both _ _ (both _ _ e .1) .0
 
-pub of-stands : (p : Phase) (sla lens counts : List ℕ) (n : ℕ) → Stands sla lens counts n
-    → countedIn p (getD sla n 0) (getD lens (n + 1) 0) (getD counts n 0) ≡ true → frameAt p n sla lens counts ≡ true
+pub of-stands : (kind : Kind) (p : Phase) (sla lens counts : List ℕ) (n : ℕ) → Stands kind sla lens counts n
+    → countedIn p (getD sla n 0) (getD lens (n + 1) 0) (getD counts n 0) ≡ true → frameAt kind p n sla lens counts ≡ true
 unfolding frameAt standing countsIn
-of-stands p sla lens counts n s c =
+of-stands kind p sla lens counts n s c =
     with _ _ (with _ _ (s .fits) (with _ _ (lt-ltb _ _ (s .below)) (ap not (s .sent))))
     (with _ _ c (at-clear counts (n + 1) (omega arith) (λ k h g. s .clear k (omega arith) g)))
 
-pub stands-running : (sla lens counts : List ℕ) (n : ℕ) → Stands sla lens counts n → Running lens n
+pub stands-running : (kind : Kind) (sla lens counts : List ℕ) (n : ℕ) → Stands kind sla lens counts n → Running lens n
 unfolding fitting
-stands-running sla lens counts n s = record { below = s .below; few = s .few; fits = leb-true _ _ (s .fits) }
+stands-running kind sla lens counts n s = record { below = s .below; few = s .few; fits = leb-true _ _ (s .fits) }
 
 -- the first transaction from `from` that is not skipped stands, where nothing is counted from there on
-pub first-stands : (sla lens counts : List ℕ) (from : ℕ) → getD lens 0 0 ≤ 64 → fitting lens ≡ true
+pub first-stands : (kind : Kind) (sla lens counts : List ℕ) (from : ℕ) → getD lens 0 0 ≤ 64 → fitting lens ≡ true
     → ((k : ℕ) → from ≤ k → k < 64 → getD counts k 0 ≡ 0)
-    → firstSent sla lens from (getD lens 0 0) < getD lens 0 0
-    → Stands sla lens counts (firstSent sla lens from (getD lens 0 0))
-first-stands sla lens counts from few fits clear h =
-    let g = first-from sla lens from (getD lens 0 0) in
+    → firstSent kind sla lens from (getD lens 0 0) < getD lens 0 0
+    → Stands kind sla lens counts (firstSent kind sla lens from (getD lens 0 0))
+first-stands kind sla lens counts from few fits clear h =
+    let g = first-from kind sla lens from (getD lens 0 0) in
     record {
       below = h;
       few = few;
       fits = fits;
-      sent = first-unskipped sla lens from (getD lens 0 0) h;
+      sent = first-unskipped kind sla lens from (getD lens 0 0) h;
       clear = λ k a b. clear k (omega arith) b;
     }
 
 -- the count of transaction n itself is not asked
-pub stands-counted : (sla lens counts : List ℕ) (n v : ℕ) → Stands sla lens counts n → Stands sla lens (set counts n v) n
-stands-counted sla lens counts n v s = record {
+pub stands-counted : (kind : Kind) (sla lens counts : List ℕ) (n v : ℕ) → Stands kind sla lens counts n → Stands kind sla lens (set counts n v) n
+stands-counted kind sla lens counts n v s = record {
   below = s .below;
   few = s .few;
   fits = s .fits;
   sent = s .sent;
   clear = λ k h g. getD-set-other counts n k v 0 (λ e. omega arith) ∙ s .clear k h g;
 }
+
+-- a UFm channel receives nothing: a read is skipped there
+pub no-receiving : (n : ℕ) (sla lens counts : List ℕ) → getD lens 0 0 ≤ 64 → frameIn Ufm (Receiving n) sla lens counts ≡ true → ⊥
+unfolding frameIn frameAt standing countsIn countedIn skippedOf readSkipped if_then_else_
+no-receiving n sla lens counts few e =
+    let s = stands-of Ufm (Receiving n) sla lens counts n few e .sent in
+    let r = both (readsOf (getD sla n 0)) _ (frame-counted Ufm (Receiving n) sla lens counts n e) .0 in
+    let z = false-not-true (sym (rw r at s)) in omega (arith, z)
+
+-- ---- the kinds of the channels are those of the part that channel 1 names, and each part's are so
+pub kinds-of : (a b c : Kind) → kindsIn a b c ≡ true → (a ≡ Fm) × (b ≡ otherKind (deviceBy b)) × (c ≡ otherKind (deviceBy b))
+unfolding kindsIn if_then_else_
+kinds-of Fm Fm Fm e = (refl, refl, refl)
+kinds-of Fm Fm Ufm e = absurd (let z = false-not-true e in omega (arith, z))
+kinds-of Fm Ufm Fm e = absurd (let z = false-not-true e in omega (arith, z))
+kinds-of Fm Ufm Ufm e = (refl, refl, refl)
+kinds-of Ufm b c e = absurd (let z = false-not-true e in omega (arith, z))
+
+pub of-kinds : (d : Device) → kindsIn Fm (otherKind d) (otherKind d) ≡ true
+unfolding kindsIn if_then_else_
+of-kinds Pca9663 = refl
+of-kinds Pcu9669 = refl

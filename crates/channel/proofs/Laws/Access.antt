@@ -94,7 +94,7 @@ module _ (c : Channel) (m : List ℕ) (place : Place) (reg : Register) (v : ℕ)
   resets : resetsOf (presetOf reg) v (c .head .key) ≡ b
   resets = rw (← ep) (sym eb)
 
-  pub write-reset : b ≡ true → x ≡ leaving zeros (on fresh (plain freshHead)) → x ≡ writeAt c m place v
+  pub write-reset : b ≡ true → x ≡ leaving zeros (on (fresh (c .head .straps)) (plain (freshHead (c .head .straps)))) → x ≡ writeAt c m place v
   unfolding writeAt putOf
   write-reset t e = rw here (pick-true _ _ _ _ (resets ∙ t) e)
 

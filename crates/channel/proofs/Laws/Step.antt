@@ -11,6 +11,7 @@ use Rattle.laws.specs.Cases.{accepted, past, both}
 use Rattle.rules.specs.declared.registers.Register.{Register}
 use Rattle.rules.specs.declared.registers.Place.{Place}
 use Rattle.rules.specs.declared.registers.Place.the-variants.{Here}
+use Rattle.rules.specs.declared.parts.Kind.{Kind}
 use Rattle.rules.specs.declared.state.Phase.{Phase}
 use Rattle.rules.specs.declared.state.Phase.the-variants.{Sending, Receiving}
 use Rattle.rules.specs.declared.wires.Event.{Event}
@@ -29,8 +30,7 @@ use Rattle.channel.specs.declared.state.Channel.{Channel}
 use Rattle.channel.specs.Range.{inRange}
 use Rattle.channel.specs.declared.state.Stepped.{Stepped}
 use Rattle.channel.specs.State.{Served, leaving, countOf}
-use Rattle.head.specs.Head.{framecntOf}
-use Rattle.head.specs.Head.{turnAt}
+use Rattle.head.specs.Head.{framecntOf, kindOf, turnAt}
 use Rattle.channel.specs.Step.{rangeNumber}
 use Rattle.channel.specs.Facts.{Accepted, Meets}
 use Rattle.channel.specs.Laws.Range.{range-count, range-frame}
@@ -59,37 +59,37 @@ pub known-here : (p : Place) (reg : Register) → KnownPlace p → p ≡ Here re
 known-here p reg h e = rw e at h
 
 -- ---- an event meets what the range says of its phase
-frame-running : (p : Phase) (n : ℕ) (sla lens counts : List ℕ) → getD lens 0 0 ≤ 64 → frameAt p n sla lens counts ≡ true → Running lens n
-frame-running p n sla lens counts k e = stands-running sla lens counts n (stands-of p sla lens counts n k e)
+frame-running : (kind : Kind) (p : Phase) (n : ℕ) (sla lens counts : List ℕ) → getD lens 0 0 ≤ 64 → frameAt kind p n sla lens counts ≡ true → Running lens n
+frame-running kind p n sla lens counts k e = stands-running kind sla lens counts n (stands-of kind p sla lens counts n k e)
 
-frame-sending : (n : ℕ) (sla lens counts : List ℕ) → frameAt (Sending n) n sla lens counts ≡ true → getD counts n 0 < getD lens (n + 1) 0
+frame-sending : (kind : Kind) (n : ℕ) (sla lens counts : List ℕ) → frameAt kind (Sending n) n sla lens counts ≡ true → getD counts n 0 < getD lens (n + 1) 0
 unfolding countedIn
-frame-sending n sla lens counts e = ltb-true _ _ (past (readsOf (getD sla n 0)) _ (frame-counted (Sending n) sla lens counts n e) .1)
+frame-sending kind n sla lens counts e = ltb-true _ _ (past (readsOf (getD sla n 0)) _ (frame-counted kind (Sending n) sla lens counts n e) .1)
 
-frame-receiving : (n : ℕ) (sla lens counts : List ℕ) → frameAt (Receiving n) n sla lens counts ≡ true → getD counts n 0 < getD lens (n + 1) 0
+frame-receiving : (kind : Kind) (n : ℕ) (sla lens counts : List ℕ) → frameAt kind (Receiving n) n sla lens counts ≡ true → getD counts n 0 < getD lens (n + 1) 0
 unfolding countedIn
-frame-receiving n sla lens counts e = ltb-true _ _ (both (readsOf (getD sla n 0)) _ (frame-counted (Receiving n) sla lens counts n e) .1)
+frame-receiving kind n sla lens counts e = ltb-true _ _ (both (readsOf (getD sla n 0)) _ (frame-counted kind (Receiving n) sla lens counts n e) .1)
 
 module _ (c : Channel) (k : countOf c ≤ 64) where
   In : Phase → Type 0
-  In p = frameIn p (c .slatable) (c .tranconfig) (c .bytecount) ≡ true
+  In p = frameIn (kindOf (c .head)) p (c .slatable) (c .tranconfig) (c .bytecount) ≡ true
 
-  met-meets : (p : Phase) (e : Event) (t : Turn) → Meeting p e t → In p → Meets c t
+  met-meets : (kind : Kind) (p : Phase) (e : Event) (t : Turn) → Meeting kind p e t → In p → Meets c t
   unfolding In frameIn
-  met-meets p e t unawaited h = tt
-  met-meets p e t (ack-address {n}) h = frame-running _ n _ _ _ k h
-  met-meets p e t (ack-sending {n}) h = record { running = frame-running _ n _ _ _ k h; short = frame-sending n _ _ _ h }
-  met-meets p e t (receive {n} {b}) h = record { running = frame-running _ n _ _ _ k h; short = frame-receiving n _ _ _ h }
-  met-meets p e t (nack-address {n}) h = frame-running _ n _ _ _ k h
-  met-meets p e t (nack-sending {n}) h = frame-running _ n _ _ _ k h
-  met-meets p e t begin h = k
-  met-meets p e t (late q) h = tt
-  met-meets p e t end h = tt
-  met-meets p e t sda h = tt
-  met-meets p e t (scl q) h = tt
-  met-meets p e t ill h = tt
+  met-meets kind p e t unawaited h = tt
+  met-meets kind p e t (ack-address {n}) h = frame-running _ _ n _ _ _ k h
+  met-meets kind p e t (ack-sending {n}) h = record { running = frame-running _ _ n _ _ _ k h; short = frame-sending _ n _ _ _ h }
+  met-meets kind p e t (receive {n} {b}) h = record { running = frame-running _ _ n _ _ _ k h; short = frame-receiving _ n _ _ _ h }
+  met-meets kind p e t (nack-address {n}) h = frame-running _ _ n _ _ _ k h
+  met-meets kind p e t (nack-sending {n}) h = frame-running _ _ n _ _ _ k h
+  met-meets kind p e t begin h = k
+  met-meets kind p e t (late q) h = tt
+  met-meets kind p e t end h = tt
+  met-meets kind p e t sda h = tt
+  met-meets kind p e t (scl q) h = tt
+  met-meets kind p e t ill h = tt
 
 pub turn-meets : (c : Channel) (e : Event) (t : Turn) → inRange c ≡ true → t ≡ turnAt (c .head) e → Meets c t
 unfolding In
 turn-meets c e t r q =
-    rw q (met-meets c (range-count c r) _ e _ (meeting (c .head .walk .phase) (c .head .regs .te) (framecntOf (c .head)) e) (range-frame c r))
+    rw q (met-meets c (range-count c r) _ _ e _ (meeting (kindOf (c .head)) (c .head .walk .phase) (c .head .regs .te) (framecntOf (c .head)) e) (range-frame c r))

@@ -5,6 +5,7 @@ use mathlib.Core.List.{List}
 use Prim.Native.Nat.{ℕ, _+_, _<_, _≤_}
 use native.Mathlib.Omega.{arith}
 use lib.ListN.{getD, set}
+use Rattle.rules.specs.declared.parts.Kind.{Kind}
 use Rattle.sequence.specs.declared.wires.Move.{Move}
 use Rattle.sequence.specs.declared.wires.Move.the-variants.{Send}
 use Rattle.sequence.specs.declared.wires.Turn.{Turn}
@@ -23,7 +24,7 @@ use Rattle.channel.specs.declared.state.Channel.{Channel}
 use Rattle.channel.specs.declared.state.Stepped.{Stepped}
 use Rattle.channel.specs.State.{countOf, withHead, withStatus, withCounts}
 use Rattle.head.specs.declared.state.Head.{Head}
-use Rattle.head.specs.Head.{haltOf, noted}
+use Rattle.head.specs.Head.{haltOf, kindOf, noted}
 use Rattle.channel.specs.Facts.{Meets}
 use Rattle.channel.specs.Wires.{slaveOf, lengthOf, bytesOf, resolved, passed, movedTo, onward, beganBy, begun, countedOne, sendOn, ackSending, failedBy, nacked}
 
@@ -60,11 +61,11 @@ module _ (c : Channel) (t : Turn) (h : Meets c t) where
   meets-begin e = rw e at h
 
 -- ---- a walk from its parts
-pub onward-of : (c : Channel) (n : ℕ) (t : Tail) (halt : Bool) (to count : ℕ) (m : Move) (s : List ℕ) (r : Stepped) → r ≡ movedTo (withStatus c s) t m
+pub onward-of : (c : Channel) (n : ℕ) (t : Tail) (kind : Kind) (halt : Bool) (to count : ℕ) (m : Move) (s : List ℕ) (r : Stepped) → r ≡ movedTo (withStatus c s) t m
     → m ≡ moveOf halt to count → s ≡ marked (c .status) (n + 1) to → halt ≡ haltOf (c .head)
-    → to ≡ reachOf halt n (c .slatable) (c .tranconfig) → count ≡ countOf c → r ≡ onward c n t
+    → to ≡ reachOf kind halt n (c .slatable) (c .tranconfig) → kind ≡ kindOf (c .head) → count ≡ countOf c → r ≡ onward c n t
 unfolding onward passed
-onward-of c n t halt to count m s r q e1 e2 e3 e4 e5 = rw (q, e1, e2, e4, e3, e5)
+onward-of c n t kind halt to count m s r q e1 e2 e3 e4 e5 e6 = rw (q, e1, e2, e4, e5, e3, e6)
 
 pub begun-of : (c : Channel) (count : ℕ) (fit : Bool) (b : Beginning) (r : Stepped) → r ≡ beganBy c b → b ≡ beginningOf count fit
     → fit ≡ fitting (c .tranconfig) → count ≡ countOf c → r ≡ begun c

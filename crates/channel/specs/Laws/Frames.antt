@@ -8,11 +8,13 @@ use borrow.Author.Tests.{lt-ltb, eq-eqb, ltb-true, eqb-true, eqb-false}
 use lib.Dec.{eqb, ltb}
 use lib.ListN.{length, getD, set, length-set, getD-replicate}
 use Rattle.laws.specs.Pick.{if_then_else_}
-use Rattle.laws.specs.Cases.{pick-holds, past, both, on, with}
+use Rattle.laws.specs.Cases.{pick-holds, past, both, on, with, false-not-true}
+use Rattle.rules.specs.declared.parts.Kind.{Kind}
+use Rattle.rules.specs.declared.parts.Kind.the-variants.{Fm, Ufm}
 use Rattle.rules.specs.declared.state.Phase.{Phase}
 use Rattle.rules.specs.declared.state.Phase.the-variants.{Idle, Address, Sending, Receiving, Stopping, Waiting}
 use Rattle.rules.specs.declared.state.Walk.{Walk}
-use Rattle.rules.specs.Tables.{fitting, readsOf, skippedOf, firstSent}
+use Rattle.rules.specs.Tables.{fitting, readsOf, readSkipped, skippedOf, firstSent}
 use Rattle.bounds.specs.Range.{pointersIn, registersIn, countingOf, endedIn, blankOf, recordedIn, walkIn, countedIn, frameAt, frameIn}
 use Rattle.rules.specs.Laws.Tables.{first-from}
 use Rattle.bounds.specs.Laws.Range.{Stands, stands-of, of-stands, frame-counted, first-stands, stands-counted, registers-count}
@@ -39,7 +41,7 @@ use Rattle.sequence.specs.Laws.Meeting.Meeting.{nack-address as nack-address′
 use Rattle.sequence.specs.Walk.{idle, waiting, feRecorded, endWalk, lateFlags, lateWalk}
 use Rattle.head.specs.State.{withWalk, withState}
 use Rattle.head.specs.Range.{headIn}
-use Rattle.head.specs.Head.{framecntOf, haltOf, femskOf, idled, endedBy, frameEnded, stopped, clocked, noted, failed, lateBy, faulted}
+use Rattle.head.specs.Head.{framecntOf, kindOf, haltOf, femskOf, idled, endedBy, frameEnded, stopped, clocked, noted, failed, lateBy, faulted}
 use Rattle.channel.specs.declared.state.Channel.{Channel}
 use Rattle.channel.specs.declared.state.Stepped.{Stepped}
 use Rattle.channel.specs.State.{Served, on as beside, countOf, withHead}
@@ -54,7 +56,7 @@ In c =
     (pointersIn (c .head .ptrs) ≡ true)
     × (registersIn (countOf c) (c .head .regs .transel) (c .head .regs .intmsk) ≡ true)
     × (walkIn (c .head .walk) (c .head .regs .te) (framecntOf (c .head)) ≡ true)
-    × (frameIn (c .head .walk .phase) (c .slatable) (c .tranconfig) (c .bytecount) ≡ true)
+    × (frameIn (kindOf (c .head)) (c .head .walk .phase) (c .slatable) (c .tranconfig) (c .bytecount) ≡ true)
 
 pub in-of : (c : Channel) → inRange c ≡ true → In c
 in-of c e = (range-pointers c e, range-registers c e, range-walk c e, range-frame c e)
@@ -151,7 +153,7 @@ Runs c = Held c × (not (c .head .walk .error) ≡ true) × Ends c (c .head .wal
 
 -- and it stands at transaction n
 abbrev RunsAt : Channel → ℕ → Type 0
-RunsAt c n = Runs c × Stands (c .slatable) (c .tranconfig) (c .bytecount) n
+RunsAt c n = Runs c × Stands (kindOf (c .head)) (c .slatable) (c .tranconfig) (c .bytecount) n
 
 stopped-in : (c : Channel) (a : Action) → Runs c → Good (beside c (stopped (c .head) a))
 unfolding stopped walkIn endedIn countingOf recordedIn frameIn
@@ -160,11 +162,11 @@ stopped-in c a r = (r .0 .0, r .0 .1, with _ _ (r .2) refl, refl)
 -- a transaction to send stands, and has no byte counted
 Sends : Channel → Move → Type 0
 Sends c Halt = Unit {0}
-Sends c (Send n) = Stands (c .slatable) (c .tranconfig) (c .bytecount) n × (bytesOf c n ≡ 0)
+Sends c (Send n) = Stands (kindOf (c .head)) (c .slatable) (c .tranconfig) (c .bytecount) n × (bytesOf c n ≡ 0)
 
-sent-in : (c : Channel) (n : ℕ) (a : Action) → Runs c → Stands (c .slatable) (c .tranconfig) (c .bytecount) n → bytesOf c n ≡ 0 → Good (sentTo c n a)
+sent-in : (c : Channel) (n : ℕ) (a : Action) → Runs c → Stands (kindOf (c .head)) (c .slatable) (c .tranconfig) (c .bytecount) n → bytesOf c n ≡ 0 → Good (sentTo c n a)
 unfolding sentTo walkIn endedIn countingOf recordedIn frameIn countedIn
-sent-in c n a r s z = (r .0 .0, r .0 .1, with _ _ (r .2) (r .1), of-stands (Address n) _ _ _ n s (eq-eqb _ _ z))
+sent-in c n a r s z = (r .0 .0, r .0 .1, with _ _ (r .2) (r .1), of-stands _ (Address n) _ _ _ n s (eq-eqb _ _ z))
 
 moved-in : (c : Channel) (t : Tail) (m : Move) → Runs c → Sends c m → Good (movedTo c t m)
 unfolding movedTo Sends
@@ -174,23 +176,23 @@ moved-in c t (Send n) r s = sent-in c n _ r (s .0) (s .1)
 -- the transaction that a walk finds from `from`, where nothing is counted from there on
 found : (c : Channel) (from to : ℕ) → countOf c ≤ 64 → fitting (c .tranconfig) ≡ true
     → ((k : ℕ) → from ≤ k → k < 64 → getD (c .bytecount) k 0 ≡ 0)
-    → to ≡ firstSent (c .slatable) (c .tranconfig) from (countOf c) → from ≤ to → ltb to (countOf c) ≡ true → Sends c (Send to)
+    → to ≡ firstSent (kindOf (c .head)) (c .slatable) (c .tranconfig) from (countOf c) → from ≤ to → ltb to (countOf c) ≡ true → Sends c (Send to)
 unfolding Sends
 found c from to few fits clear e f t =
     let h = ltb-true to (countOf c) t in
-    (rw e (first-stands (c .slatable) (c .tranconfig) (c .bytecount) from few fits clear (rw e at h)), clear to f (omega arith))
+    (rw e (first-stands (kindOf (c .head)) (c .slatable) (c .tranconfig) (c .bytecount) from few fits clear (rw e at h)), clear to f (omega arith))
 
 -- the walk's next move, from `from`
 walk-sends : (c : Channel) (from : ℕ) → countOf c ≤ 64 → fitting (c .tranconfig) ≡ true
     → ((k : ℕ) → from ≤ k → k < 64 → getD (c .bytecount) k 0 ≡ 0)
-    → Sends c (moveOf false (firstSent (c .slatable) (c .tranconfig) from (countOf c)) (countOf c))
+    → Sends c (moveOf false (firstSent (kindOf (c .head)) (c .slatable) (c .tranconfig) from (countOf c)) (countOf c))
 unfolding moveOf if_then_else_ Sends
 walk-sends c from few fits clear =
-    let to = firstSent (c .slatable) (c .tranconfig) from (countOf c) in
-    pick-holds (Sends c) (ltb to (countOf c)) (λ t. found c from to few fits clear refl (first-from _ _ _ _) t) (λ _. tt)
+    let to = firstSent (kindOf (c .head)) (c .slatable) (c .tranconfig) from (countOf c) in
+    pick-holds (Sends c) (ltb to (countOf c)) (λ t. found c from to few fits clear refl (first-from _ _ _ _ _) t) (λ _. tt)
 
-next-sends : (c : Channel) (n : ℕ) (halt : Bool) → Stands (c .slatable) (c .tranconfig) (c .bytecount) n
-    → Sends c (moveOf halt (reachOf halt n (c .slatable) (c .tranconfig)) (countOf c))
+next-sends : (c : Channel) (n : ℕ) (halt : Bool) → Stands (kindOf (c .head)) (c .slatable) (c .tranconfig) (c .bytecount) n
+    → Sends c (moveOf halt (reachOf (kindOf (c .head)) halt n (c .slatable) (c .tranconfig)) (countOf c))
 unfolding moveOf reachOf if_then_else_ Sends
 next-sends c n true s = tt
 next-sends c n false s = walk-sends c (n + 1) (s .few) (s .fits) (λ k h g. s .clear k (omega arith) g)
@@ -261,19 +263,20 @@ send-on : (c : Channel) (m : List ℕ) (n k : ℕ) (x : Next) → RunsAt c n →
 unfolding sendOn byteSent Short walkIn endedIn countingOf recordedIn frameIn countedIn
 send-on c m n k Cut r w s = stopped-in c _ (r .0)
 send-on c m n k More r w s =
-    (r .0 .0 .0, r .0 .0 .1, with _ _ (r .0 .2) (r .0 .1), of-stands (Sending n) _ _ _ n (r .1) (on _ _ w (lt-ltb _ _ s)))
+    (r .0 .0 .0, r .0 .0 .1, with _ _ (r .0 .2) (r .0 .1), of-stands _ (Sending n) _ _ _ n (r .1) (on _ _ w (lt-ltb _ _ s)))
 send-on c m n k Over r w s = finished-in c n _ r
 
 -- a read that is not skipped has a length
-read-length : (sla len : ℕ) → readsOf sla ≡ true → skippedOf sla len ≡ false → 0 < len
-unfolding skippedOf if_then_else_
-read-length sla len r e = let h = eqb-false len 0 (rw r at e) in omega arith
+read-length : (kind : Kind) (sla len : ℕ) → readsOf sla ≡ true → skippedOf kind sla len ≡ false → 0 < len
+unfolding skippedOf readSkipped if_then_else_
+read-length Fm sla len r e = let h = eqb-false len 0 (rw r at e) in omega arith
+read-length Ufm sla len r e = absurd (let z = false-not-true (sym (rw r at e)) in omega (arith, z))
 
 clocked-in : (c : Channel) (n : ℕ) → RunsAt c n → readsOf (getD (c .slatable) n 0) ≡ true → bytesOf c n ≡ 0 → Good (beside c (clocked (c .head) n))
 unfolding clocked walkIn endedIn countingOf recordedIn frameIn countedIn
 clocked-in c n r d z =
-    let l = read-length _ _ d (r .1 .sent) in
-    (r .0 .0 .0, r .0 .0 .1, with _ _ (r .0 .2) (r .0 .1), of-stands (Receiving n) _ _ _ n (r .1) (with _ _ d (lt-ltb (bytesOf c n) (lengthOf c n) (omega arith))))
+    let l = read-length _ _ _ d (r .1 .sent) in
+    (r .0 .0 .0, r .0 .0 .1, with _ _ (r .0 .2) (r .0 .1), of-stands _ (Receiving n) _ _ _ n (r .1) (with _ _ d (lt-ltb (bytesOf c n) (lengthOf c n) (omega arith))))
 
 ack-address : (c : Channel) (m : List ℕ) (n : ℕ) → RunsAt c n → bytesOf c n ≡ 0 → Good (ackAddress c m n)
 unfolding ackAddress
@@ -289,7 +292,7 @@ counted-le (x ∷ l) (suc n) v = counted-le l n v
 
 counted-runs : (c : Channel) (n : ℕ) → RunsAt c n → RunsAt (countedOne c n) n
 unfolding countedOne
-counted-runs c n r = (r .0, stands-counted _ _ _ n _ (r .1))
+counted-runs c n r = (r .0, stands-counted _ _ _ _ n _ (r .1))
 
 ack-sending : (c : Channel) (m : List ℕ) (n : ℕ) → RunsAt c n → readsOf (getD (c .slatable) n 0) ≡ false → Good (ackSending c m n)
 unfolding ackSending countedOne
@@ -299,7 +302,7 @@ receive-on : (c : Channel) (n : ℕ) (x : Next) → RunsAt c n → readsOf (getD
 unfolding receiveOn Short walkIn endedIn countingOf recordedIn frameIn countedIn
 receive-on c n Cut r d q s = stopped-in c _ (r .0)
 receive-on c n More r d q s =
-    (r .0 .0 .0, r .0 .0 .1, rw q (with _ _ (r .0 .2) (r .0 .1)), rw q (of-stands (Receiving n) _ _ _ n (r .1) (with _ _ d (lt-ltb _ _ s))))
+    (r .0 .0 .0, r .0 .0 .1, rw q (with _ _ (r .0 .2) (r .0 .1)), rw q (of-stands _ (Receiving n) _ _ _ n (r .1) (with _ _ d (lt-ltb _ _ s))))
 receive-on c n Over r d q s = finished-in c n _ r
 
 received-in : (c : Channel) (m : List ℕ) (n b : ℕ) → RunsAt c n → readsOf (getD (c .slatable) n 0) ≡ true → c .head .walk .phase ≡ Receiving n → Good (received c m n b .stepped)
@@ -325,7 +328,7 @@ module _ (c : Channel) (m : List ℕ) (h : In c) where
       (c .head .walk .phase ≡ p)
       × (endedIn p (c .head .regs .te) (framecntOf (c .head)) (c .head .walk .ended) ≡ true)
       × (recordedIn p (c .head .walk) ≡ true)
-      × (frameIn p (c .slatable) (c .tranconfig) (c .bytecount) ≡ true)
+      × (frameIn (kindOf (c .head)) p (c .slatable) (c .tranconfig) (c .bytecount) ≡ true)
 
   pub phase-in : In-phase (c .head .walk .phase)
   unfolding walkIn
@@ -334,8 +337,8 @@ module _ (c : Channel) (m : List ℕ) (h : In c) where
   few : countOf c ≤ 64
   few = registers-count _ _ _ (h .1)
 
-  runs-at : (p : Phase) (n : ℕ) → Ends c (c .head .walk .ended) → (not (c .head .walk .error) ≡ true) → frameAt p n (c .slatable) (c .tranconfig) (c .bytecount) ≡ true → RunsAt c n
-  runs-at p n e r f = (((h .0, h .1), r, e), stands-of p _ _ _ n few f)
+  runs-at : (p : Phase) (n : ℕ) → Ends c (c .head .walk .ended) → (not (c .head .walk .error) ≡ true) → frameAt (kindOf (c .head)) p n (c .slatable) (c .tranconfig) (c .bytecount) ≡ true → RunsAt c n
+  runs-at p n e r f = (((h .0, h .1), r, e), stands-of _ p _ _ _ n few f)
 
   address-runs : (n : ℕ) → In-phase (Address n) → RunsAt c n
   unfolding endedIn countingOf recordedIn frameIn
@@ -351,15 +354,15 @@ module _ (c : Channel) (m : List ℕ) (h : In c) where
 
   address-none : (n : ℕ) → In-phase (Address n) → bytesOf c n ≡ 0
   unfolding frameIn countedIn
-  address-none n i = eqb-true _ _ (frame-counted (Address n) _ _ _ n (i .3))
+  address-none n i = eqb-true _ _ (frame-counted _ (Address n) _ _ _ n (i .3))
 
   sending-writes : (n : ℕ) → In-phase (Sending n) → readsOf (getD (c .slatable) n 0) ≡ false
   unfolding frameIn countedIn
-  sending-writes n i = past _ _ (frame-counted (Sending n) _ _ _ n (i .3)) .0
+  sending-writes n i = past _ _ (frame-counted _ (Sending n) _ _ _ n (i .3)) .0
 
   receiving-reads : (n : ℕ) → In-phase (Receiving n) → readsOf (getD (c .slatable) n 0) ≡ true
   unfolding frameIn countedIn
-  receiving-reads n i = both _ _ (frame-counted (Receiving n) _ _ _ n (i .3)) .0
+  receiving-reads n i = both _ _ (frame-counted _ (Receiving n) _ _ _ n (i .3)) .0
 
   -- another walk in the same phase, with as many frames ended
   pub rewalked : (w : Walk) → w .phase ≡ c .head .walk .phase → w .ended ≡ c .head .walk .ended → (p : Phase) → In-phase p → recordedIn p w ≡ true → In (withHead c (withWalk (c .head) w))
@@ -371,7 +374,7 @@ module _ (c : Channel) (m : List ℕ) (h : In c) where
         with _ _
             (subst (λ (x : Phase). endedIn x (c .head .regs .te) (framecntOf (c .head)) (w .ended) ≡ true) s (rw e (i .1)))
             (subst (λ (x : Phase). recordedIn x w ≡ true) s r),
-        subst (λ (x : Phase). frameIn x (c .slatable) (c .tranconfig) (c .bytecount) ≡ true) s (i .3),
+        subst (λ (x : Phase). frameIn (kindOf (c .head)) x (c .slatable) (c .tranconfig) (c .bytecount) ≡ true) s (i .3),
       )
 
   -- late: FE set is a flag; FE recorded is no error end
@@ -406,24 +409,24 @@ module _ (c : Channel) (m : List ℕ) (h : In c) where
   fault-in f = idled-in c (h .0, h .1)
 
   -- each turn, by what the event meets
-  met-in : (p : Phase) (e : Event) (t : Turn) → Meeting p e t → In-phase p → Fine m (turned c m t)
+  met-in : (k : Kind) (p : Phase) (e : Event) (t : Turn) → Meeting k p e t → In-phase p → Fine m (turned c m t)
   unfolding turned received GoodBeat beaten
-  met-in p e t unawaited′ i = (h, refl)
-  met-in p e t (ack-address′ {n}) i = (ack-address c m n (address-runs n i) (address-none n i), refl)
-  met-in p e t (ack-sending′ {n}) i = (ack-sending c m n (sending-runs n i) (sending-writes n i), refl)
-  met-in p e t (receive′ {n} {b}) i = (received-in c m n b (receiving-runs n i) (receiving-reads n i) (i .0), length-set m _ b)
-  met-in p e t (nack-address′ {n}) i = (nacked-in c n _ (address-runs n i), refl)
-  met-in p e t (nack-sending′ {n}) i = (nacked-in c n _ (sending-runs n i), refl)
-  met-in p e t begin′ i = (begun-in c (waiting-runs i), refl)
-  met-in p e t (late′ q) i = (subst GoodBeat q (beaten-in p i), refl)
-  met-in p e t end′ i = (frame-ended c (h .0, h .1), refl)
-  met-in p e t sda′ i = (fault-in Dae, refl)
-  met-in p e t (scl′ q) i = (fault-in Cle, refl)
-  met-in p e t ill′ i = (fault-in Sse, refl)
+  met-in k p e t unawaited′ i = (h, refl)
+  met-in k p e t (ack-address′ {n}) i = (ack-address c m n (address-runs n i) (address-none n i), refl)
+  met-in k p e t (ack-sending′ {n}) i = (ack-sending c m n (sending-runs n i) (sending-writes n i), refl)
+  met-in k p e t (receive′ {n} {b}) i = (received-in c m n b (receiving-runs n i) (receiving-reads n i) (i .0), length-set m _ b)
+  met-in k p e t (nack-address′ {n}) i = (nacked-in c n _ (address-runs n i), refl)
+  met-in k p e t (nack-sending′ {n}) i = (nacked-in c n _ (sending-runs n i), refl)
+  met-in k p e t begin′ i = (begun-in c (waiting-runs i), refl)
+  met-in k p e t (late′ q) i = (subst GoodBeat q (beaten-in p i), refl)
+  met-in k p e t end′ i = (frame-ended c (h .0, h .1), refl)
+  met-in k p e t sda′ i = (fault-in Dae, refl)
+  met-in k p e t (scl′ q) i = (fault-in Cle, refl)
+  met-in k p e t ill′ i = (fault-in Sse, refl)
 
   -- NO EVENT LEADS OUT OF RANGE
-  pub turn-in : (e : Event) → Fine m (turned c m (turnOf (c .head .walk .phase) (c .head .regs .te) (framecntOf (c .head)) e))
-  turn-in e = met-in (c .head .walk .phase) e _ (meeting _ (c .head .regs .te) (framecntOf (c .head)) e) phase-in
+  pub turn-in : (e : Event) → Fine m (turned c m (turnOf (kindOf (c .head)) (c .head .walk .phase) (c .head .regs .te) (framecntOf (c .head)) e))
+  turn-in e = met-in _ (c .head .walk .phase) e _ (meeting (kindOf (c .head)) _ (c .head .regs .te) (framecntOf (c .head)) e) phase-in
 
   -- NO TRIGGER EDGE LEADS OUT OF RANGE
   edge-in : (edge : Edge) → GoodBeat (edgeBeat (c .head .walk .phase) (c .head .regs .te) (c .head .regs .tp) edge)

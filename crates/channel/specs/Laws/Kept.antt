@@ -9,6 +9,8 @@ use lib.Dec.{eqb, ltb}
 use lib.ListN.{length, getD, set, length-set, length-replicate}
 use Rattle.laws.specs.Pick.{if_then_else_}
 use Rattle.laws.specs.Cases.{pick-holds, past, both, with, false-not-true, accepted}
+use Rattle.rules.specs.declared.parts.Kind.{Kind}
+use Rattle.rules.specs.declared.parts.Straps.{Straps}
 use Rattle.rules.specs.declared.state.Phase.{Phase}
 use Rattle.rules.specs.declared.state.Phase.the-variants.{Idle, Address, Sending, Receiving, Stopping, Waiting}
 use Rattle.rules.specs.declared.state.Walk.{Walk}
@@ -42,23 +44,23 @@ use Rattle.channel.specs.Facts.{Accepted}
 use Rattle.channel.specs.Laws.Frames.{In, in-of, of-in, Good, Fine, Runs, In-phase, phase-in, rewalked, zero-ends, waited-in, left-in, begun-in, turn-in}
 
 -- ---- where no frame is under way, the tables may change
-idle-frame : (p : Phase) (s l b : List ℕ) → activeOf p ≡ false → frameIn p s l b ≡ true
+idle-frame : (k : Kind) (p : Phase) (s l b : List ℕ) → activeOf p ≡ false → frameIn k p s l b ≡ true
 unfolding frameIn
-idle-frame Idle s l b e = refl
-idle-frame (Address n) s l b e = absurd (omega (arith, false-not-true (sym e)))
-idle-frame (Sending n) s l b e = absurd (omega (arith, false-not-true (sym e)))
-idle-frame (Receiving n) s l b e = absurd (omega (arith, false-not-true (sym e)))
-idle-frame Stopping s l b e = refl
-idle-frame Waiting s l b e = refl
+idle-frame k Idle s l b e = refl
+idle-frame k (Address n) s l b e = absurd (omega (arith, false-not-true (sym e)))
+idle-frame k (Sending n) s l b e = absurd (omega (arith, false-not-true (sym e)))
+idle-frame k (Receiving n) s l b e = absurd (omega (arith, false-not-true (sym e)))
+idle-frame k Stopping s l b e = refl
+idle-frame k Waiting s l b e = refl
 
-open-frame : (p : Phase) (at : ℕ) (s l b : List ℕ) → lockedOf p at ≡ false → frameIn p s l b ≡ true
+open-frame : (k : Kind) (p : Phase) (at : ℕ) (s l b : List ℕ) → lockedOf p at ≡ false → frameIn k p s l b ≡ true
 unfolding frameIn
-open-frame Idle at s l b e = refl
-open-frame (Address n) at s l b e = absurd (omega (arith, false-not-true (sym e)))
-open-frame (Sending n) at s l b e = absurd (omega (arith, false-not-true (sym e)))
-open-frame (Receiving n) at s l b e = absurd (omega (arith, false-not-true (sym e)))
-open-frame Stopping at s l b e = refl
-open-frame Waiting at s l b e = refl
+open-frame k Idle at s l b e = refl
+open-frame k (Address n) at s l b e = absurd (omega (arith, false-not-true (sym e)))
+open-frame k (Sending n) at s l b e = absurd (omega (arith, false-not-true (sym e)))
+open-frame k (Receiving n) at s l b e = absurd (omega (arith, false-not-true (sym e)))
+open-frame k Stopping at s l b e = refl
+open-frame k Waiting at s l b e = refl
 
 -- in Idle the number of ended frames is 0, whatever TE and FRAMECNT are
 idle-ended : (p : Phase) (te te′ : Bool) (n n′ k : ℕ) → activeOf p ≡ false → endedIn p te n k ≡ true → endedIn p te′ n′ k ≡ true
@@ -227,7 +229,7 @@ write-in c m Intmsk v e h = ((h .0, of-registers _ _ _ (registers-count _ _ _ (h
 write-in c m Slatable v e h =
     let p = points-of _ (h .0) in
     let g = sla-open (c .head .walk .phase) (c .head .ptrs .sla) e in
-    ((of-points _ (record { sla = omega arith; count = p .count; conf = p .conf; buf = p .buf }), h .1, h .2, idle-frame (c .head .walk .phase) _ _ _ (g .0)), refl)
+    ((of-points _ (record { sla = omega arith; count = p .count; conf = p .conf; buf = p .buf }), h .1, h .2, idle-frame _ (c .head .walk .phase) _ _ _ (g .0)), refl)
 write-in c m Tranconfig v e h =
     let p = points-of _ (h .0) in
     let g = conf-open (c .head .walk .phase) (c .head .ptrs .conf) v e in (
@@ -235,7 +237,7 @@ write-in c m Tranconfig v e h =
         of-points _ (record { sla = p .sla; count = p .count; conf = omega arith; buf = p .buf }),
         of-registers _ _ _ (entry-0 (c .tranconfig) (c .head .ptrs .conf) v (registers-count _ _ _ (h .1)) (not-many _ v (g .2))) (registers-sel _ _ _ (h .1)) (registers-mask _ _ _ (h .1)),
         h .2,
-        open-frame (c .head .walk .phase) (c .head .ptrs .conf) _ _ _ (g .0),
+        open-frame _ (c .head .walk .phase) (c .head .ptrs .conf) _ _ _ (g .0),
       ),
       refl,
     )
@@ -269,9 +271,9 @@ guarded-in : (n : ℕ) (c : Channel) (m : List ℕ) (d : Served) → In c → (n
 unfolding guarded
 guarded-in n c m d h f = pick-holds (Fine m) (eqb n done) (λ t. f (eqb-true n done t)) (λ _. (h, refl))
 
-fresh-in : In fresh
+fresh-in : (x : Straps) → In (fresh x)
 unfolding pointersIn registersIn walkIn endedIn countingOf recordedIn blankOf frameIn if_then_else_
-fresh-in = (refl, refl, refl, refl)
+fresh-in x = (refl, refl, refl, refl)
 
 pub zeros-length : length zeros ≡ bufferSize
 unfolding zeros
@@ -282,7 +284,7 @@ module _ (c : Channel) (m : List ℕ) (number : ℕ) (h : In c) (whole : length 
   put-in : (reg : Register) (v : ℕ) → Fine m (putOf c m reg v)
   unfolding putOf writeOf
   put-in reg v =
-      pick-holds (Fine m) (resetsOf (presetOf reg) v (c .head .key)) (λ _. (fresh-in, zeros-length ∙ sym whole))
+      pick-holds (Fine m) (resetsOf (presetOf reg) v (c .head .key)) (λ _. (fresh-in (c .head .straps), zeros-length ∙ sym whole))
       (λ _. guarded-in _ (keyed c reg v) m _ h (λ e. write-in (keyed c reg v) m reg v e h))
 
   write-at : (p : Place) (v : ℕ) → Fine m (writeAt c m p v)
@@ -329,9 +331,9 @@ module _ (c : Channel) (m : List ℕ) (number : ℕ) (op : Op) (a : Accepted c m
   pub served-length : length (servedBy c m number op .bytes) ≡ length m
   served-length = served-in c m number (in-of c (a .ranged)) (a .whole) op .1
 
--- the reset state is in range
-pub fresh-in-range : inRange fresh ≡ true
-fresh-in-range = of-in fresh fresh-in
+-- the reset state is in range, of either kind
+pub fresh-in-range : (x : Straps) → inRange (fresh x) ≡ true
+fresh-in-range x = of-in (fresh x) (fresh-in x)
 
 -- A STEP KEEPS THE NUMBER OF BYTES
 pub length-bytes : (c : Channel) (m : List ℕ) (number : ℕ) (op : Op) → length (bytesAfter c m number op) ≡ length m

@@ -5,7 +5,7 @@ use Prim.Native.Nat.{_≤_}
 use Rattle.laws.specs.Cases.{both}
 use Rattle.bounds.specs.Range.{pointersIn, registersIn, walkIn, frameIn}
 use Rattle.bounds.specs.Laws.Range.{registers-sel}
-use Rattle.head.specs.Head.{framecntOf}
+use Rattle.head.specs.Head.{framecntOf, kindOf}
 use Rattle.head.specs.Range.{headIn}
 use Rattle.head.specs.Laws.Range.{head-pointers, head-registers, head-walk, head-count}
 use Rattle.channel.specs.declared.state.Channel.{Channel}
@@ -26,7 +26,7 @@ module _ (c : Channel) (e : inRange c ≡ true) where
   pub range-walk : walkIn (c .head .walk) (c .head .regs .te) (framecntOf (c .head)) ≡ true
   range-walk = head-walk _ _ range-head
 
-  pub range-frame : frameIn (c .head .walk .phase) (c .slatable) (c .tranconfig) (c .bytecount) ≡ true
+  pub range-frame : frameIn (kindOf (c .head)) (c .head .walk .phase) (c .slatable) (c .tranconfig) (c .bytecount) ≡ true
   unfolding inRange
   range-frame = both _ _ e .1
 

@@ -23,4 +23,6 @@ causes-spec =
     (λ c. λ κs. search needs)
     (λ c. λ κs. search needs)
     (λ c. λ κs. search needs)
+    (λ c. λ κs. search needs)
+    (λ c. λ κs. search needs)
     (λ c. search rows depth 12))

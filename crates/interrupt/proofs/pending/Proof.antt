@@ -12,7 +12,7 @@ pending-spec =
     tie.close
     (tie.spec
     (λ c. λ κs. search needs)
-    (λ c. sym (calm-pending _ _ (sym (c .before .calm .ensures) ∙ c .if1 .taken)))
+    (λ c. sym (calm-pending _ _ _ (sym (c .before .calm .ensures) ∙ c .if1 .taken)))
     (λ c. λ κs. search needs)
     (λ c. search needs)
     (λ c. λ κs. search needs)

@@ -1,7 +1,7 @@
 -- A byte that is summed up of its bits, taken apart again.
 use Prim.Native.Nat.{ℕ, _+_, _*_, _/_, _%_, _≤_}
 use mathlib.Core.Bool.{Bool, true, false}
-use mathlib.Core.Path.{_≡_, refl, _∙_}
+use mathlib.Core.Path.{_≡_, refl, _∙_, ap}
 use native.Mathlib.Omega.{arith}
 use borrow.Author.Tests.{eq-eqb, ne-eqb, eqb-true, eqb-false}
 use lib.Dec.{eqb}
@@ -36,6 +36,9 @@ bit-weighed false n e = ne-eqb n 1 (λ k. omega (arith, e, k))
 
 pub clear : (v w : ℕ) → v / w % 2 ≡ 0 → bitOf v w ≡ false
 clear v w e = ne-eqb (v / w % 2) 1 (λ k. omega (arith, e, k))
+
+pub same : (u v w : ℕ) → u / w % 2 ≡ v / w % 2 → bitOf u w ≡ bitOf v w
+same u v w e = ap (λ (n : ℕ). eqb n 1) e
 
 -- two numbers, each 0 where the other is
 pub both-none : (m n : ℕ) → (m ≡ 0 → n ≡ 0) → (n ≡ 0 → m ≡ 0) → eqb m 0 ≡ eqb n 0

@@ -13,10 +13,11 @@ use lib.Seq.{drop-cons}
 use Rattle.laws.specs.Pick.{if_then_else_}
 use Rattle.laws.specs.Cases.{false-not-true, both}
 use Rattle.laws.specs.Lists.{Some}
+use Rattle.rules.specs.declared.parts.Kind.{Kind}
 use Rattle.rules.specs.declared.state.Flags.{Flags}
 use Rattle.rules.specs.Numbers.{pastBuffer}
 use Rattle.rules.specs.Registers.{bitOf, weigh, chstatusValue}
-use Rattle.interrupt.specs.Interrupt.{_unless_, someOf, causesOf, pendingOf, beAfter}
+use Rattle.interrupt.specs.Interrupt.{_unless_, onFm, someOf, causesOf, pendingOf, beAfter}
 use Rattle.interrupt.specs.Laws.Bits.{bits, unset, both-none}
 
 -- ---- rows put together
@@ -26,10 +27,13 @@ row r r′ l l′ p q = cc
 pub beside : (r cause m m′ : Bool) → r ≡ (cause unless m) → m ≡ m′ → r ≡ (cause unless m′)
 beside r cause m m′ p q = cc
 
+pub on-fm : (kind : Kind) (r m m′ : Bool) → r ≡ onFm kind m → m ≡ m′ → r ≡ onFm kind m′
+on-fm kind r m m′ p q = cc
+
 pub of-rows : (r : Bool) (l l′ : List Bool) → r ≡ someOf l → l ≡ l′ → r ≡ someOf l′
 of-rows r l l′ p q = cc
 
-pub ruleset rows = (row, beside, of-rows, refl)
+pub ruleset rows = (row, beside, on-fm, of-rows, refl)
 
 -- ---- looked through: no row before the i-th holds
 module _ (rows : List Bool) (i : ℕ) (e : someOf rows ≡ someOf (drop i rows)) where
@@ -99,9 +103,9 @@ all-off f e =
     let b = bits (f .sd) (f .fld) (f .we) (f .re) (f .dae) (f .cle) (f .sse) (f .fe) 0 (sym e) in
     (sym (b .seven), sym (b .six), sym (b .five), sym (b .four), sym (b .three), sym (b .two), sym (b .one), sym (b .zero))
 
-pub calm-pending : (f : Flags) (m : ℕ) → eqb (chstatusValue f) 0 ≡ true → pendingOf f m ≡ false
+pub calm-pending : (kind : Kind) (f : Flags) (m : ℕ) → eqb (chstatusValue f) 0 ≡ true → pendingOf kind f m ≡ false
 unfolding pendingOf causesOf someOf _unless_ if_then_else_
-calm-pending f m e = let h = all-off f (eqb-true (chstatusValue f) 0 e) in rw (h .0, h .1, h .2, h .3, h .4, h .5, h .6, h .7)
+calm-pending kind f m e = let h = all-off f (eqb-true (chstatusValue f) 0 e) in rw (h .0, h .1, h .2, h .3, h .4, h .5, h .6, h .7)
 
 -- the flags as the bytes of a word: it is 0 exactly where CHSTATUS is
 halves : (m n : ℕ) → m + n * 0x100000000 ≡ 0 → (m ≡ 0) × (n ≡ 0)

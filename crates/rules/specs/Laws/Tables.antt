@@ -7,12 +7,16 @@ use native.Mathlib.Numerals.{add-one}
 use native.Mathlib.Nat.{add-zero, add-suc}
 use native.Mathlib.Omega.{arith}
 use borrow.Author.Needs.{needs}
-use borrow.Author.Tests.{not-false, not-true}
+use borrow.Author.Tests.{not-false, not-true, eqb-true, eqb-false, le-leb, lt-leb}
+use lib.Dec.{eqb, leb}
 use lib.ListN.{getD, set}
 use Rattle.laws.specs.Pick.{if_then_else_}
 use Rattle.laws.specs.Cases.{left-more, left-none, pick-holds}
+use Rattle.rules.specs.declared.parts.Kind.{Kind}
+use Rattle.rules.specs.declared.parts.Kind.the-variants.{Fm, Ufm}
 use Rattle.rules.specs.Numbers.{doneStatus}
-use Rattle.rules.specs.Tables.{startOf, skippedOf, sentFrom, firstSent, markFrom, marked}
+use Rattle.rules.specs.Facts.{Skips}
+use Rattle.rules.specs.Tables.{startOf, readsOf, readSkipped, skippedOf, longestSkipped, sentFrom, firstSent, markFrom, marked}
 
 -- ---- startOf
 pub start-none : (l : List ℕ) → 0 ≡ startOf l 0
@@ -28,18 +32,35 @@ start-end l i v s p h k = let e : i ≡ v = omega arith in cc
 
 pub ruleset starts = (start-none, start-more, start-end, needs)
 
+-- ---- a read up to a length, which is a byte
+none-longer : (n : ℕ) → leb n 0 ≡ eqb n 0
+none-longer n = go (eqb n 0) refl
+  where
+    go : (b : Bool) → eqb n 0 ≡ b → leb n 0 ≡ eqb n 0
+    go true e = rw (eqb-true n 0 e)
+    go false e = rw e (lt-leb n 0 (let h = eqb-false n 0 e in omega arith))
+
+up-to : (kind : Kind) (n : ℕ) → n < 256 → leb n (longestSkipped kind) ≡ readSkipped kind n
+unfolding longestSkipped readSkipped if_then_else_
+up-to Fm n h = none-longer n
+up-to Ufm n h = le-leb n 255 (omega arith)
+
+pub skips-of : (most sla len : ℕ) (r : Bool) → len < 256 → r ≡ (if readsOf sla then leb len most else false) → Skips most sla len r
+unfolding skippedOf
+skips-of most sla len r h e kind q = e ∙ rw (q, up-to kind len h)
+
 -- ---- firstSent: the loop's three ways
-pub sent-end : (s l : List ℕ) (i n r : ℕ) → firstSent s l i n ≡ r → i ≤ n → n ≤ i → n ≡ r
+pub sent-end : (c : Kind) (s l : List ℕ) (i n r : ℕ) → firstSent c s l i n ≡ r → i ≤ n → n ≤ i → n ≡ r
 unfolding sentFrom
-sent-end s l i n r e k h = let q : n ≡ i = omega arith in q ∙ (rw (left-none n i h) at e)
+sent-end c s l i n r e k h = let q : n ≡ i = omega arith in q ∙ (rw (left-none n i h) at e)
 
-pub sent-found : (s l : List ℕ) (i n r : ℕ) (b : Bool) → firstSent s l i n ≡ r → i < n → b ≡ skippedOf (getD s i 0) (getD l (i + 1) 0) → not b ≡ true → i ≡ r
+pub sent-found : (c : Kind) (s l : List ℕ) (i n r : ℕ) (b : Bool) → firstSent c s l i n ≡ r → i < n → b ≡ skippedOf c (getD s i 0) (getD l (i + 1) 0) → not b ≡ true → i ≡ r
 unfolding sentFrom if_then_else_
-sent-found s l i n r b e h p t = rw (left-more n i h, ← p, not-true b t) at e
+sent-found c s l i n r b e h p t = rw (left-more n i h, ← p, not-true b t) at e
 
-pub sent-more : (s l : List ℕ) (i n r : ℕ) (b : Bool) → firstSent s l i n ≡ r → i < n → b ≡ skippedOf (getD s i 0) (getD l (i + 1) 0) → not b ≡ false → firstSent s l (i + 1) n ≡ r
+pub sent-more : (c : Kind) (s l : List ℕ) (i n r : ℕ) (b : Bool) → firstSent c s l i n ≡ r → i < n → b ≡ skippedOf c (getD s i 0) (getD l (i + 1) 0) → not b ≡ false → firstSent c s l (i + 1) n ≡ r
 unfolding sentFrom if_then_else_
-sent-more s l i n r b e h p t = rw (left-more n i h, ← p, not-false b t) at e
+sent-more c s l i n r b e h p t = rw (left-more n i h, ← p, not-false b t) at e
 
 pub ruleset sents = (sent-end, sent-found, sent-more, needs)
 
@@ -67,29 +88,29 @@ start-next l i n h =
     rw (start-more l i _ _ refl refl) (rw e g)
 
 -- ---- the transaction that firstSent finds is not skipped
-sent-from : (s l : List ℕ) (i left : ℕ) → i ≤ sentFrom s l i left
+sent-from : (c : Kind) (s l : List ℕ) (i left : ℕ) → i ≤ sentFrom c s l i left
 unfolding sentFrom
-sent-from s l i zero = omega arith
-sent-from s l i (suc left) =
-    pick-holds (λ (n : ℕ). i ≤ n) (skippedOf (getD s i 0) (getD l (i + 1) 0)) (λ _. let h = sent-from s l (i + 1) left in omega arith) (λ _. omega arith)
+sent-from c s l i zero = omega arith
+sent-from c s l i (suc left) =
+    pick-holds (λ (n : ℕ). i ≤ n) (skippedOf c (getD s i 0) (getD l (i + 1) 0)) (λ _. let h = sent-from c s l (i + 1) left in omega arith) (λ _. omega arith)
 
-pub first-from : (s l : List ℕ) (from n : ℕ) → from ≤ firstSent s l from n
-first-from s l from n = sent-from s l from (n - from)
+pub first-from : (c : Kind) (s l : List ℕ) (from n : ℕ) → from ≤ firstSent c s l from n
+first-from c s l from n = sent-from c s l from (n - from)
 
-Unskipped : List ℕ → List ℕ → ℕ → Type 0
-Unskipped s l n = skippedOf (getD s n 0) (getD l (n + 1) 0) ≡ false
+Unskipped : Kind → List ℕ → List ℕ → ℕ → Type 0
+Unskipped c s l n = skippedOf c (getD s n 0) (getD l (n + 1) 0) ≡ false
 
-sent-unskipped : (s l : List ℕ) (i left : ℕ) → sentFrom s l i left < i + left → Unskipped s l (sentFrom s l i left)
+sent-unskipped : (c : Kind) (s l : List ℕ) (i left : ℕ) → sentFrom c s l i left < i + left → Unskipped c s l (sentFrom c s l i left)
 unfolding sentFrom Unskipped
-sent-unskipped s l i zero h = absurd (omega arith)
-sent-unskipped s l i (suc left) h =
-    pick-holds (λ (n : ℕ). n < i + suc left → Unskipped s l n) (skippedOf (getD s i 0) (getD l (i + 1) 0))
-    (λ e k. sent-unskipped s l (i + 1) left (omega arith))
+sent-unskipped c s l i zero h = absurd (omega arith)
+sent-unskipped c s l i (suc left) h =
+    pick-holds (λ (n : ℕ). n < i + suc left → Unskipped c s l n) (skippedOf c (getD s i 0) (getD l (i + 1) 0))
+    (λ e k. sent-unskipped c s l (i + 1) left (omega arith))
     (λ e k. e)
     h
 
-pub first-unskipped : (s l : List ℕ) (from n : ℕ) → firstSent s l from n < n → skippedOf (getD s (firstSent s l from n) 0) (getD l (firstSent s l from n + 1) 0) ≡ false
+pub first-unskipped : (c : Kind) (s l : List ℕ) (from n : ℕ) → firstSent c s l from n < n → skippedOf c (getD s (firstSent c s l from n) 0) (getD l (firstSent c s l from n + 1) 0) ≡ false
 unfolding Unskipped
-first-unskipped s l from n h =
-    let k = first-from s l from n in
-    sent-unskipped s l from (n - from) (omega arith)
+first-unskipped c s l from n h =
+    let k = first-from c s l from n in
+    sent-unskipped c s l from (n - from) (omega arith)

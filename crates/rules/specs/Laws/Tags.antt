@@ -8,7 +8,7 @@ use borrow.Author.Tests.{eqb-true, eq-eqb, ne-eqb}
 use Rattle.laws.specs.Pick.{if_then_else_}
 use Rattle.laws.specs.Cases.{both}
 use Rattle.rules.specs.declared.wires.Event.{Event}
-use Rattle.rules.specs.declared.wires.Event.the-variants.{Ninth, Byte, Tick, Stop, Sda, Scl, Ill}
+use Rattle.rules.specs.declared.wires.Event.the-variants.{Ninth, Byte, Tick, Stop, Sda, Scl, Ill, Sent}
 use Rattle.rules.specs.declared.wires.Level.the-variants.{Low, High}
 use Rattle.rules.specs.declared.tags.Tag.{Tag}
 use Rattle.rules.specs.declared.tags.Decoded.{Decoded}
@@ -52,6 +52,7 @@ event-back Stop = refl
 event-back Sda = refl
 event-back Scl = refl
 event-back Ill = refl
+event-back Sent = refl
 
 -- ---- for `event_of`: another kind than an event's
 

@@ -17,7 +17,7 @@ in-part (Write a v) = pick-holds InPart (ltb (channelAt a) 3) (λ t. ltb-true _ 
 in-part (Read a) = pick-holds InPart (ltb (channelAt a) 3) (λ t. ltb-true _ _ t) (λ _. tt)
 in-part (Wire c e) = pick-holds InPart (ltb c 3) (λ t. ltb-true _ _ t) (λ _. tt)
 in-part (Trigger edge) = tt
-in-part Reset = tt
+in-part (Reset d) = tt
 
 pub one-in-part : (s : Step) (c : ℕ) (op : Op) → targetOf s ≡ One op c → c < 3
 one-in-part s c op e = subst InPart e (in-part s)

@@ -10,6 +10,7 @@ onward-spec =
     (tie.spec
     (λ c. λ κs. search needs)
     (λ c. λ κs. search needs)
+    (λ c. λ κs. search needs)
     (λ c. search needs)
     (λ c. λ κs. search needs)
     (λ c. λ κs. search needs)

@@ -23,6 +23,15 @@ returns c =
       stored .store .ensures,
     )
 
+-- the bytes are as many as were lent
+lent : tie.Need-same-length
+lent c =
+    let counted = c .before .before .before in
+    let had = counted .before .before .before .before in
+    let len = had .before .before in
+    let mem = len .before .before .before in
+    search (needs, mem .mem, mem .before .store, mem .before .before .store-arg2)
+
 pub receive-spec : {M : Type 1} → statement M
 receive-spec =
     tie.close
@@ -38,5 +47,5 @@ receive-spec =
     (λ c. λ κs. search needs)
     (λ c. λ κs. search needs)
     (λ c. λ κs. search needs)
-    (λ c. search needs)
+    lent
     returns)

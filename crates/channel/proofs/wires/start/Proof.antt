@@ -10,7 +10,7 @@ returns c =
     let marked = c .before .before .before in
     let move = marked .before .before in
     let first = move .before in
-    rw (c .start-by .ensures, marked .mark .ensures, move .next-move .ensures .0, first .first-sent .ensures .0, first .before .byte .ensures .0)
+    rw (c .start-by .ensures, marked .mark .ensures, move .next-move .ensures .0, first .first-sent .ensures .0, first .before .kind .ensures, first .before .before .byte .ensures .0)
 
 pub start-spec : {M : Type 1} → statement M
 unfolding started cleared passed
@@ -18,6 +18,7 @@ start-spec =
     tie.close
     (tie.spec
     (λ c. search needs)
+    (λ c. λ κs. search needs)
     (λ c. λ κs. search needs)
     (λ c. λ κs. search needs)
     (λ c. λ κs. search needs)

@@ -18,7 +18,7 @@ trigger-requires c κs =
 
 reset-requires : tie.Need-reset-requires
 reset-requires c κs =
-    let start = c .before .before .before .before .before .before .before .before in
+    let start = c .before .before .before .before .before .before .before .before .before in
     (start .pre .rows, start .pre .whole .whole)
 
 -- CtrlWrite
@@ -49,7 +49,7 @@ returns-4 : tie.Need-returns-4
 unfolding allServed allStored
 returns-4 c =
     let reset = c .before .before in
-    rw (reset .before .before .before .before .before .before .enum-told .given .1) (reset .reset .ensures)
+    rw (reset .before .before .before .before .before .before .before .t4 .given .1) (reset .reset .ensures)
 
 -- Beyond
 returns-5 : tie.Need-returns-5
@@ -59,7 +59,7 @@ returns-5 c =
     let a = start .args in
     let f : Part → PartStepped = λ p. refusedPart p 1 in
     let rows = rowsIn (a .sla) (a .lens) (a .status) (a .counts) in
-    rw (c .before .enum-told2 .given .1) (tells-gives f (a .heads) _ rows (start .pre .heads) (start .pre .rows) (c .tell .ensures .1), refl)
+    rw (c .before .enum-told .given .1) (tells-gives f (a .heads) _ rows (start .pre .heads) (start .pre .rows) (c .tell .ensures .1), refl)
 
 pub all-spec : {M : Type 1} → statement M
 all-spec =

@@ -18,12 +18,13 @@ returns : tie.Need-returns
 unfolding ctrlPut ctrlStore if_then_else_
 returns c =
     let reset = c .before .before in
-    let test = reset .before .before .before .before .before .before in
+    let device = reset .before .before .before .before .before .before in
+    let test = device .before in
     let preset = test .before .before in
     let a = preset .before .before .args in
     let t : resetsOf (ctrlpresetOf (a .reg)) (a .v) (a .heads .common .key) ≡ true =
     rw (sym (preset .is-ctrlpreset .ensures)) (sym (test .before .resets .ensures) ∙ test .if1 .taken) in
-    rw t (reset .reset .ensures)
+    rw (t, ← device .device .ensures) (reset .reset .ensures)
 
 returns-2 : tie.Need-returns-2
 unfolding ctrlPut ctrlStore if_then_else_
@@ -43,6 +44,7 @@ pub put-ctrl-spec : {M : Type 1} → statement M
 put-ctrl-spec =
     tie.close
     (tie.spec
+    (λ c κs. search needs)
     (λ c κs. search needs)
     (λ c κs. search needs)
     (λ c κs. search needs)

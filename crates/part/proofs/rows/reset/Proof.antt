@@ -17,7 +17,7 @@ returns c =
     let start = wipe .before .before .before in (
       record {
         holds = rw (c .tell .ensures .0, ← spread .before .before .before .before .before .new .ensures) (spread .spread .ensures);
-        answer = ap (λ (x : PartStepped). x .answer) (c .tell .ensures .1 .1 (rowsOf freshPart));
+        answer = ap (λ (x : PartStepped). x .answer) (c .tell .ensures .1 .1 (rowsOf (freshPart (start .args .d))));
       },
       wipe .wipe .ensures ∙ ap (λ (n : ℕ). replicate n 0) (start .pre .1),
     )

@@ -20,6 +20,7 @@ event-of-spec =
     (λ c. search needs)
     (λ c. search needs)
     (λ c. search needs)
+    (λ c. search needs)
     (λ c. rw (c .before .match .keys1) (c .plain .ensures))
     (λ c. rw (c .match .keys2) (sym (event-back (Byte _))))
     (λ c. rw (c .before .match .keys3) (c .plain2 .ensures))
@@ -28,4 +29,5 @@ event-of-spec =
     (λ c. rw (c .before .match .keys6) (c .plain5 .ensures))
     (λ c. rw (c .before .match .keys7) (c .plain6 .ensures))
     (λ c. rw (c .before .match .keys8) (c .plain7 .ensures))
+    (λ c. rw (c .before .match .keys9) (c .plain8 .ensures))
     (λ c. search another-kind depth 12))

@@ -1,4 +1,5 @@
--- `sequence::wires::turn_of` meets its contract: in each arm the event is known.
+-- `sequence::wires::turn_of` meets its contract.
+use Rattle.laws.specs.Cases.{cases}
 use Rattle.sequence.specs.Wires.{turnOf}
 use borrow.Author.Needs.{needs}
 use Rattle.sequence.proofs.wires.turn_of.Statement.{statement}
@@ -11,21 +12,5 @@ turn-of-spec =
     (tie.spec
     (λ c. search needs)
     (λ c. search needs)
-    (λ c. search needs)
-    (λ c. search needs)
-    (λ c. search needs)
-    (λ c. search needs)
-    (λ c. search needs)
-    (λ c. search needs)
-    (λ c. search needs)
-    (λ c. search needs)
-    (λ c. search needs)
-    (λ c. search needs)
-    (λ c. search needs)
-    (λ c. rw (c .before .before .e .given .1) (c .ninth-turn .ensures))
-    (λ c. rw (c .before .before .e2 .given .1) (c .byte-turn .ensures))
-    (λ c. rw (c .before .enum-told .given .1) (c .tick-turn .ensures))
-    (λ c. rw (c .before .enum-told2 .given .1) (c .stop-turn .ensures))
-    (λ c. rw (c .before .enum-told3 .given .1) (c .sda-turn .ensures))
-    (λ c. rw (c .before .enum-told4 .given .1) (c .scl-turn .ensures))
-    (λ c. rw (c .enum-told5 .given .1)))
+    (λ c. search cases depth 12)
+    (λ c. search cases depth 12))

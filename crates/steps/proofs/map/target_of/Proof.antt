@@ -21,4 +21,4 @@ target-of-spec =
     (λ c. rw (c .before .before .s2 .given .1) (c .read-target .ensures))
     (λ c. rw (c .before .before .s3 .given .1) (c .wire-target .ensures))
     (λ c. (rw (c .before .s4 .given .1), tt))
-    (λ c. (rw (c .enum-told .given .1), tt)))
+    (λ c. (rw (c .before .s5 .given .1), tt)))

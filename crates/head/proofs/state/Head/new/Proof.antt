@@ -9,4 +9,5 @@ new-spec =
     (tie.spec
     (λ c. λ κs. search needs)
     (λ c. λ κs. search needs)
-    (λ c. rw (c .idle-walk .ensures, c .before .no-flags .ensures)))
+    (λ c. λ κs. search needs)
+    (λ c. rw (c .idle-walk .ensures, c .before .no-flags .ensures, c .before .before .settings-of .ensures)))

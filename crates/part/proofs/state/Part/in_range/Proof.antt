@@ -12,5 +12,7 @@ in-range-spec =
     (tie.spec
     (λ c. λ κs. search needs)
     (λ c. λ κs. search needs)
-    (λ c. pick-true _ _ _ _ (flag-true _ _ (c .before .before .channels-in .ensures) (c .before .if1 .taken)) (c .mask-in .ensures))
+    (λ c. λ κs. search needs)
+    (λ c. search cases depth 12)
+    (λ c. search cases depth 12)
     (λ c. search cases depth 12))

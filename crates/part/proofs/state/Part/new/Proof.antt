@@ -8,4 +8,6 @@ new-spec =
     tie.close
     (tie.spec
     (λ c. λ κs. search needs)
-    (λ c. rw (c .new .ensures)))
+    (λ c. λ κs. search needs)
+    (λ c. λ κs. search needs)
+    (λ c. rw (c .new2 .ensures, c .before .other-kind .ensures, c .before .before .new .ensures)))
