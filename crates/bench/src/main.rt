@@ -11,6 +11,7 @@ use libc::STDERR_FILENO;
 use libc::STDIN_FILENO;
 use libc::STDOUT_FILENO;
 use part::Part;
+use rules::Device;
 use rules::MEMORY;
 use runner::Course;
 use runner::Start;
@@ -147,7 +148,7 @@ fn turn(s: Seat, block: &mut [u8], mem: &mut [u8], out: &mut [u8]) -> Bench
     }
 }
 
-// The program begins: the part after a reset, and the header is written.
+// The program begins: the PCA9663 after a reset, and the header is written.
 fn begin(out: &mut [u8]) -> Bench
     requires { ⌜ answerRoom ≤ length (now out) ⌝ }
     ensures { λ r. ⌜ Begun r wiped (take (r .seat .at) (now (out .exit))) ⌝ }
@@ -155,7 +156,7 @@ fn begin(out: &mut [u8]) -> Bench
     let n = answers::write_header(out, 0);
     Bench {
         seat: Seat {
-            part: Part::new(),
+            part: Part::new(Device::Pca9663),
             step: 0,
             line: runner::no_line(),
             at: n,

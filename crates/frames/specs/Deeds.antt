@@ -63,7 +63,7 @@ abbrev pub allResets : Part → Wide → Bool
 allResets p (CtrlWrite reg v) = resetsOf (ctrlpresetOf reg) v (p .key)
 allResets p (CtrlRead reg) = false
 allResets p (AllTrigger edge) = false
-allResets p AllReset = true
+allResets p (AllReset d) = true
 allResets p Beyond = false
 
 unfoldable pub resetsBy : ℕ → Part → Target → Bool
@@ -131,7 +131,7 @@ abbrev pub allBegins : Channel → Wide → Bool
 allBegins c (CtrlWrite reg v) = false
 allBegins c (CtrlRead reg) = false
 allBegins c (AllTrigger edge) = beatBegins (edgeBeat (c .head .walk .phase) (c .head .regs .te) (c .head .regs .tp) edge)
-allBegins c AllReset = false
+allBegins c (AllReset d) = false
 allBegins c Beyond = false
 
 unfoldable pub asksBy : ℕ → Part → Target → Bool

@@ -1,5 +1,5 @@
 -- REQUEST ONE (document 02): a frame can't hang, and no byte counts twice. A frame takes at most its count plus its summed lengths plus one of the ACK, NACK,
--- BYTE and STOP events answered 0; each BYTECOUNT equals the number of data bytes acknowledged or received for that transaction in the events since
+-- BYTE and STOP events answered 0, SENT counted as ACK; each BYTECOUNT equals the number of data bytes acknowledged or received for that transaction in the events since
 -- the frame began; bytes sent by a write are the buffer's bytes in order.
 -- A reader has to believe this page, the logger (Wire.antt), what a step is to a channel (Deeds.antt), and the rules of a step that the contract of `Part::step` cites
 -- (crate part, specs/Step.antt). Theorem.antt says what is proved; the last lines of each statement there and all of Laws/ are proof.
@@ -11,7 +11,7 @@ use lib.ListN.{length, getD, replicate}
 use Rattle.laws.specs.Pick.{if_then_else_}
 use Rattle.rules.specs.declared.state.Phase.the-variants.{Idle, Address}
 use Rattle.rules.specs.Numbers.{done}
-use Rattle.rules.specs.Tables.{startOf, sumOf, fitting, readsOf, firstSent}
+use Rattle.rules.specs.Tables.{startOf, sumOf, fitting, readsOf}
 use Rattle.rules.specs.declared.wires.Action.{Action}
 use Rattle.rules.specs.declared.wires.Action.the-variants.{Nothing, S}
 use Rattle.rules.specs.declared.wires.Event.{Event}
@@ -19,13 +19,14 @@ use Rattle.steps.specs.declared.map.Step.the-variants.{Wire}
 use Rattle.steps.specs.declared.map.Target.{Target}
 use Rattle.steps.specs.declared.answer.Act.{Act}
 use Rattle.steps.specs.declared.answer.PartAnswer.{PartAnswer}
+use Rattle.head.specs.Head.{kindOf}
 use Rattle.channel.specs.declared.state.Channel.{Channel}
-use Rattle.channel.specs.State.{countOf}
+use Rattle.channel.specs.State.{countOf, fresh}
 use Rattle.channel.specs.Wires.{slaveOf, lengthOf, bytesOf}
 use Rattle.part.specs.State.{chan, window}
 use Rattle.mixes.specs.Mix.{Machine, ends}
 use Rattle.independent.specs.Statement.{State, Accepted, thePart}
-use Rattle.frames.specs.Wire.{Entry, Watch, costOf, spent, faults, endsOf, addressing, watchAfter, acknowledged, sent, Carries}
+use Rattle.frames.specs.Wire.{Entry, Slaves, nextFrom, Watch, costOf, spent, faults, endsOf, addressing, watchAfter, acknowledged, sent, Carries}
 use Rattle.frames.specs.Wire.Heard.{event}
 use Rattle.frames.specs.Deeds.{heardBy, resetsBy, mayBegin, beginsBy, runsOf}
 
@@ -42,9 +43,17 @@ bufferOf c s = window c (s .memory)
 abbrev pub actionAt : ℕ → List Act → Action
 actionAt c l = getD l c (record { action = Nothing }) .action
 
+-- it is as a reset leaves a channel of its kind
+abbrev pub Fresh : Channel → Type 0
+Fresh x = x ≡ fresh (x .head .straps)
+
+-- whom it addresses
+abbrev pub slavesOf : Channel → Slaves
+slavesOf c = record { kind = kindOf (c .head); table = c .slatable }
+
 -- the first transaction that is not skipped, or the count
 abbrev pub firstOf : Channel → ℕ
-firstOf c = firstSent (c .slatable) (c .tranconfig) 0 (countOf c)
+firstOf c = nextFrom (slavesOf c) (c .tranconfig) 0
 
 -- count plus summed lengths plus one, skipped transactions counted too
 abbrev pub boundOf : Channel → ℕ
@@ -95,7 +104,7 @@ module _ {A : Type 0} (M : Machine State A PartAnswer) (aim : A → Target) (c :
       (if beginsBy c (s .part) (aim a) then [] else a ∷ untilNext (M .after s a) l)
 
   -- each action of the run carries what it must, with the buffer of that moment
-  abbrev pub Momentary : List ℕ → List ℕ → State → Watch → List A → Type 0
+  abbrev pub Momentary : Slaves → List ℕ → State → Watch → List A → Type 0
   Momentary sla lens s w [] = Unit {0}
   Momentary sla lens s w (a ∷ l) =
       Carries sla lens (bufferOf c s) w (entryAt s a .action)
@@ -103,10 +112,10 @@ module _ {A : Type 0} (M : Machine State A PartAnswer) (aim : A → Target) (c :
 
   -- the bytes of transaction k that the frame sends, in order, and how many data bytes of it are acknowledged or received until the next begin or reset
   abbrev pub sentIn : State → List A → ℕ → List ℕ
-  sentIn s l k = sent (channelOf c s .slatable) (channelOf c s .tranconfig) k (startWatch (channelOf c s)) (logOf s (frameOf s l))
+  sentIn s l k = sent (slavesOf (channelOf c s)) (channelOf c s .tranconfig) k (startWatch (channelOf c s)) (logOf s (frameOf s l))
 
   abbrev pub acknowledgedIn : State → List A → ℕ → ℕ
-  acknowledgedIn s l k = acknowledged (channelOf c s .slatable) (channelOf c s .tranconfig) k (startWatch (channelOf c s)) (logOf s (untilNext s l))
+  acknowledgedIn s l k = acknowledged (slavesOf (channelOf c s)) (channelOf c s .tranconfig) k (startWatch (channelOf c s)) (logOf s (untilNext s l))
 
   -- WHAT IS PROMISED OF A FRAME that begins with state s, whatever steps l follow: accesses, events, refused ones, triggers, TICK, other channels' steps,
   -- resets, faults
@@ -122,7 +131,7 @@ module _ {A : Type 0} (M : Machine State A PartAnswer) (aim : A → Target) (c :
     -- until then each BYTECOUNT is the number of data bytes acknowledged or received
     pub counts : (k : ℕ) → bytesOf (channelOf c (ends M s (untilNext s l))) k ≡ acknowledgedIn s l k
     -- each repeated START addresses the next transaction, and each byte sent is the buffer's at the moment of its D
-    pub moments : Momentary (channelOf c s .slatable) (channelOf c s .tranconfig) s (startWatch (channelOf c s)) (frameOf s l)
+    pub moments : Momentary (slavesOf (channelOf c s)) (channelOf c s .tranconfig) s (startWatch (channelOf c s)) (frameOf s l)
     -- byte j that write k sends is the buffer's, at its start plus j, as the frame found it
     pub order : (k j : ℕ) → k < countOf (channelOf c s) → readsOf (slaveOf (channelOf c s) k) ≡ false → j < length (sentIn s l k)
         → (j < lengthOf (channelOf c s) k) × (getD (sentIn s l k) j 0 ≡ getD (bufferOf c s) (startOf (channelOf c s .tranconfig) k + j) 0)
@@ -144,7 +153,7 @@ module _ {A : Type 0} (M : Machine State A PartAnswer) (aim : A → Target) (c :
 
   -- the tables and the buffer stay
   pub record Begins (s : State) (a : A) : Type 0 where
-    pub slas : channelOf c (M .after s a) .slatable ≡ channelOf c s .slatable
+    pub slas : slavesOf (channelOf c (M .after s a)) ≡ slavesOf (channelOf c s)
     pub lengths : channelOf c (M .after s a) .tranconfig ≡ channelOf c s .tranconfig
     pub bytes : bufferOf c (M .after s a) ≡ bufferOf c s
     pub leads : Leads s a

@@ -19,14 +19,13 @@ use Rattle.steps.specs.Map.{targetOf}
 use Rattle.steps.specs.Laws.Map.{in-part}
 use Rattle.head.specs.Access.{dataPlace}
 use Rattle.head.specs.Head.{framecntOf}
-use Rattle.channel.specs.State.{fresh}
 use Rattle.part.specs.Laws.Range.{accepts-whole, whole-accepts, step-accepted, bytes-accepted}
 use Rattle.part.specs.Laws.Kept.{whole-kept}
 use Rattle.mixes.specs.Mix.{Machine}
 use Rattle.independent.specs.Statement.{State, Accepted, thePart}
 use Rattle.frames.specs.Wire.{spent, faults}
 use Rattle.frames.specs.Deeds.{runsOf, resetsBy, asksBy}
-use Rattle.frames.specs.Statement.{channelOf, boundOf, Begun, startWatch, logOf, frameOf, Frame, Begins, Rested, Quiet}
+use Rattle.frames.specs.Statement.{channelOf, Fresh, boundOf, Begun, startWatch, logOf, frameOf, Frame, Begins, Rested, Quiet}
 use Rattle.frames.specs.Laws.Asks.{sta-asks, tick-asks, edge-asks}
 use Rattle.frames.specs.Laws.Runs.{Follows, bounded, reached, within, momentary, ordered}
 use Rattle.frames.specs.Laws.Counts.{silent-after, counted, rest-quiet}
@@ -83,7 +82,7 @@ module _ {A : Type 0} (M : Machine State A PartAnswer) (aim : A → Target) (f :
     quiet l r = rest-quiet M aim f c low l s acc inside r
 
     -- what is called a reset is one
-    pub resets : (a : A) → resetsBy c (s .part) (aim a) ≡ true → channelOf c (M .after s a) ≡ fresh
+    pub resets : (a : A) → resetsBy c (s .part) (aim a) ≡ true → Fresh (channelOf c (M .after s a))
     resets a e = reset-laws.resets M aim f c low s a acc inside e
 
 -- ---- of the part's steps

@@ -4,6 +4,7 @@ use mathlib.Core.Bool.{Bool, true}
 use mathlib.Core.Path.{_≡_}
 use lib.Dec.{eqb}
 use Rattle.laws.specs.Pick.{if_then_else_}
+use Rattle.rules.specs.declared.parts.Device.{Device}
 use Rattle.part.specs.declared.state.Part.{Part}
 use Rattle.part.specs.State.{chan, freshPart, wiped}
 use Rattle.works.specs.State.{State}
@@ -16,6 +17,6 @@ keyAt p c = if eqb c 3 then p .key else chan p c .head .key
 abbrev pub AtMostOneKey : Part → Type 0
 AtMostOneKey p = (c d : ℕ) → keyAt p c ≡ true → keyAt p d ≡ true → c ≡ d
 
--- the state after a reset
-abbrev pub atReset : State
-atReset = record { part = freshPart; memory = wiped }
+-- the state after a hardware reset
+abbrev pub atReset : Device → State
+atReset d = record { part = freshPart d; memory = wiped }

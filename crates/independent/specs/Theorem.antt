@@ -2,6 +2,7 @@
 -- steps, in any order. And request Two: from reset at most one key is ever pending.
 use mathlib.Core.List.{List, [], _∷_}
 use Rattle.laws.specs.Lists.{All}
+use Rattle.rules.specs.declared.parts.Device.{Device}
 use Rattle.steps.specs.declared.map.Step.{Step}
 use Rattle.mixes.specs.Mix.{Mix, OfSome, stepsOf, ends}
 use Rattle.independent.specs.Keys.{AtMostOneKey, atReset}
@@ -44,5 +45,5 @@ one-key-in : (s : State) (l : List Step) → AtMostOneKey (s .part) → AtMostOn
 one-key-in s [] h = h
 one-key-in s (a ∷ l) h = one-key-in (thePart .after s a) l (one-key-kept s a h)
 
-pub one-key : (l : List Step) → AtMostOneKey (ends thePart atReset l .part)
-one-key l = one-key-in atReset l fresh-one-key
+pub one-key : (d : Device) (l : List Step) → AtMostOneKey (ends thePart (atReset d) l .part)
+one-key d l = one-key-in (atReset d) l (fresh-one-key d)

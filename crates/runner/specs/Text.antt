@@ -4,7 +4,8 @@ use mathlib.Core.List.{List, [], _∷_, _++_}
 use lib.Dec.{eqb}
 use Rattle.laws.specs.Pick.{if_then_else_}
 use Rattle.part.specs.Registers.{interruptOf}
-use Rattle.part.specs.State.{freshPart, wiped}
+use Rattle.rules.specs.declared.parts.Device.the-variants.{Pca9663}
+use Rattle.independent.specs.Keys.{atReset}
 use Rattle.independent.specs.Statement.{State}
 use Rattle.answers.specs.Answer.{answerLine, header}
 use Rattle.runner.specs.Run.{theScript}
@@ -55,9 +56,9 @@ unfoldable pub repliesTo : Desk → List (List ℕ) → List ℕ
 repliesTo d [] = []
 repliesTo d (l ∷ k) = replyTo d l ++ repliesTo (afterOne d l) k
 
--- ---- THE OUTPUT of a script: the header, and a line for each of its lines, from the part after a reset
+-- ---- THE OUTPUT of a script: the header, and a line for each of its lines, from the PCA9663 after a reset
 abbrev pub reset : Desk
-reset = record { state = record { part = freshPart; memory = wiped }; step = 0 }
+reset = record { state = atReset Pca9663; step = 0 }
 
 unfoldable pub outputOf : List ℕ → List ℕ
 outputOf input = header ++ repliesTo reset (linesOf input)

@@ -6,9 +6,10 @@ use lib.Dec.{eqb, leb, ltb}
 use lib.ListN.{getD}
 use Rattle.laws.specs.Pick.{if_then_else_}
 use Rattle.laws.specs.Ascii.{ascii}
+use Rattle.rules.specs.declared.parts.Device.the-variants.{Pca9663, Pcu9669}
 use Rattle.rules.specs.declared.wires.Edge.the-variants.{Rising, Falling}
 use Rattle.rules.specs.declared.wires.Event.{Event}
-use Rattle.rules.specs.declared.wires.Event.the-variants.{Ninth, Byte, Tick, Stop, Sda, Scl, Ill}
+use Rattle.rules.specs.declared.wires.Event.the-variants.{Ninth, Byte, Tick, Stop, Sda, Scl, Ill, Sent}
 use Rattle.rules.specs.declared.wires.Level.the-variants.{Low, High}
 use Rattle.steps.specs.declared.map.Step.the-variants.{Write, Read, Wire, Trigger, Reset}
 use Rattle.script.specs.declared.reading.Line.{Line}
@@ -65,10 +66,11 @@ clockLine l =
     else if inForm (ascii "E c STOP") l then wireLine l Stop
     else faultLine l
 
--- `E c ACK`, `E c NACK`, `E c BYTE bb`. Both words become the one event that carries the level, low meaning acknowledged
+-- `E c ACK`, `E c SENT`, `E c NACK`, `E c BYTE bb`. ACK and NACK become the one event that carries the level, low meaning acknowledged
 unfoldable pub eventLine : List ℕ → Line
 eventLine l =
     if inForm (ascii "E c ACK") l then wireLine l (Ninth Low)
+    else if inForm (ascii "E c SENT") l then wireLine l Sent
     else if inForm (ascii "E c NACK") l then wireLine l (Ninth High)
     else if inForm (ascii "E c BYTE bb") l then wireLine l (Byte (byteAt l 9))
     else clockLine l
@@ -80,10 +82,11 @@ edgeLine l =
     else if inForm (ascii "T F") l then Readable (Trigger Falling)
     else eventLine l
 
--- a step a line: `W aa dd`, `R aa`, `X` (hardware reset), or one of the above
+-- a step a line: `W aa dd`, `R aa`, `X` or `X 9669` (hardware reset, of the PCA9663 or the PCU9669), or one of the above
 unfoldable pub lineOf : List ℕ → Line
 lineOf l =
     if inForm (ascii "W aa dd") l then Readable (Write (byteAt l 2) (byteAt l 5))
     else if inForm (ascii "R aa") l then Readable (Read (byteAt l 2))
-    else if inForm (ascii "X") l then Readable Reset
+    else if inForm (ascii "X") l then Readable (Reset Pca9663)
+    else if inForm (ascii "X 9669") l then Readable (Reset Pcu9669)
     else edgeLine l

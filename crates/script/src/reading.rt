@@ -2,6 +2,7 @@
 ghost use mathlib.Core.Path.{_≡_};
 ghost use Prim.Native.Nat.{_<_};
 ghost use Rattle.script.specs.Grammar.{lineRoom, isHex, hexOf, digitAt, byteAt, suiting, inForm, wireLine, lineOf, edgeLine, eventLine, clockLine, faultLine};
+use rules::Device;
 use rules::Edge;
 use rules::Event;
 use rules::Level;
@@ -123,6 +124,9 @@ fn read_event(line: &[u8]) -> Line
     if in_form(b"E c ACK", line) {
         return wire(line, Event::Ninth(Level::Low));
     }
+    if in_form(b"E c SENT", line) {
+        return wire(line, Event::Sent);
+    }
     if in_form(b"E c NACK", line) {
         return wire(line, Event::Ninth(Level::High));
     }
@@ -155,7 +159,10 @@ pub fn read_line(line: &[u8]) -> Line
         return Line::Readable(Step::Read(byte_at(line, 2)));
     }
     if in_form(b"X", line) {
-        return Line::Readable(Step::Reset);
+        return Line::Readable(Step::Reset(Device::Pca9663));
+    }
+    if in_form(b"X 9669", line) {
+        return Line::Readable(Step::Reset(Device::Pcu9669));
     }
     read_edge(line)
 }

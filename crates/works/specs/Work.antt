@@ -39,7 +39,7 @@ pub record Given : Type 0 where
   pub out : List ℕ
 
 -- a work: what its buffer holds at the call (`lent`), what it makes of the channel's own (`after`), what it gives (`gives`), whether it is a write to the part
--- (`writes`); that it leads neither out of range nor to another number of bytes (`keeps`), and that the channel's key is nothing to it: where that was
+-- (`writes`); that it leads neither out of range nor to another number of bytes (`keeps`), that what the hardware reset chose stays (`stays`), and that the channel's key is nothing to it: where that was
 -- forgotten before, it does the same (`unkeys`) and gives the same (`blind`). So a write to PRESET is no work
 pub record Work : Type 0 where
   pub lent : List ℕ
@@ -47,6 +47,7 @@ pub record Work : Type 0 where
   pub gives : Own → Given
   pub writes : Bool
   pub keeps : (o : Own) → Sound o → Sound (after o)
+  pub stays : (o : Own) → after o .channel .head .straps ≡ o .channel .head .straps
   pub unkeys : (o : Own) → after (unkeyed o) ≡ unkeyed (after o)
   pub blind : (o : Own) → gives (unkeyed o) ≡ gives o
 

@@ -10,6 +10,7 @@ use lib.Seq.{sets}
 use Rattle.laws.specs.Cases.{pick-holds}
 use Rattle.laws.specs.Pick.{if_then_else_}
 use Rattle.part.specs.declared.state.Part.{Part}
+use Rattle.rules.specs.declared.parts.Device.the-variants.{Pca9663}
 use Rattle.part.specs.State.{freshPart, wiped}
 use Rattle.part.specs.Laws.Kept.{fresh-part-in-range}
 use Rattle.part.specs.Facts.{Whole}
@@ -121,7 +122,7 @@ header-put o at o′ h w =
     let i : at ≤ length o′ = omega (arith, new .place, n, z, h) in
     (i, put-text o header at o′ new i)
 
-pub opens : (p : Part) (line : Start) (at : ℕ) → p ≡ freshPart → line ≡ noLine → sittingOf (record { part = p; step = 0; line = line; at = at }) wiped ≡ opening
+pub opens : (p : Part) (line : Start) (at : ℕ) → p ≡ freshPart Pca9663 → line ≡ noLine → sittingOf (record { part = p; step = 0; line = line; at = at }) wiped ≡ opening
 opens p line at e f = rw (e, f, kept-few 0 (omega arith))
 
 pub opening-ready : (s : Seat) (m : List ℕ) → sittingOf s m ≡ opening → Ready s m
@@ -129,7 +130,7 @@ unfolding wiped
 opening-ready s m e =
     record {
       whole = record {
-        ranged = rw (ap (λ (x : Sitting). x .desk .state .part) e) fresh-part-in-range;
+        ranged = rw (ap (λ (x : Sitting). x .desk .state .part) e) (fresh-part-in-range Pca9663);
         whole = ap (λ (x : Sitting). length (x .desk .state .memory)) e ∙ length-replicate {A = ℕ} 13056 0;
       };
       unended = rw (ap (λ (x : Sitting). x .line) e) (omega arith);

@@ -7,6 +7,7 @@ use borrow.Author.Tests.{eq-eqb, lt-ltb}
 use lib.Dec.{eqb}
 use Rattle.laws.specs.Pick.{if_then_else_}
 use Rattle.laws.specs.Cases.{pick-holds, both}
+use Rattle.rules.specs.declared.parts.Kind.{Kind}
 use Rattle.rules.specs.declared.state.Phase.{Phase}
 use Rattle.rules.specs.declared.state.Phase.the-variants.{Idle, Address, Sending, Receiving, Stopping, Waiting}
 use Rattle.rules.specs.declared.registers.Place.{Place}
@@ -20,7 +21,7 @@ use Rattle.rules.specs.declared.wires.Edge.{Edge}
 use Rattle.rules.specs.declared.wires.Event.{Event}
 use Rattle.rules.specs.declared.wires.Event.the-variants.{Tick}
 use Rattle.sequence.specs.declared.wires.Turn.{Turn}
-use Rattle.sequence.specs.Wires.{startAsked, askedIn, askOf, beatOf, tickingOf, tickTurn, turnOf, matchesOf, edgeBeat}
+use Rattle.sequence.specs.Wires.{heardTurn, startAsked, askedIn, askOf, beatOf, tickingOf, tickTurn, turnOf, matchesOf, edgeBeat}
 use Rattle.sequence.specs.Laws.Meeting.{Meeting, meeting}
 use Rattle.sequence.specs.Laws.Meeting.Meeting.{unawaited as unawaited′, ack-address as ack-address′, ack-sending as ack-sending′, receive as receive′}
 use Rattle.sequence.specs.Laws.Meeting.Meeting.{nack-address as nack-address′, nack-sending as nack-sending′, begin as begin′, late as late′, end as end′, sda as sda′, scl as scl′, ill as ill′}
@@ -32,7 +33,7 @@ use Rattle.steps.specs.declared.map.Target.the-variants.{One, All}
 use Rattle.steps.specs.declared.map.Wide.the-variants.{CtrlWrite, CtrlRead, AllTrigger, AllReset, Beyond}
 use Rattle.steps.specs.Map.{channelAt, writeTarget, wireTarget, targetOf}
 use Rattle.head.specs.Access.{dataPlace, teAfter}
-use Rattle.head.specs.Head.{framecntOf}
+use Rattle.head.specs.Head.{framecntOf, kindOf}
 use Rattle.channel.specs.declared.state.Channel.{Channel}
 use Rattle.part.specs.declared.state.Part.{Part}
 use Rattle.part.specs.State.{chan}
@@ -52,19 +53,19 @@ mild-unasked Sto h = refl
 mild-unasked Seq h = refl
 mild-unasked Leave h = absurd h
 
-met-unasked : (p : Phase) (e : Event) (t : Turn) → Meeting p e t → runsOf p ≡ true → turnBegins t ≡ false
-met-unasked p e t unawaited′ r = refl
-met-unasked p e t ack-address′ r = refl
-met-unasked p e t ack-sending′ r = refl
-met-unasked p e t receive′ r = refl
-met-unasked p e t nack-address′ r = refl
-met-unasked p e t nack-sending′ r = refl
-met-unasked p e t begin′ r = no r
-met-unasked p e t (late′ q) r = refl
-met-unasked p e t end′ r = refl
-met-unasked p e t sda′ r = refl
-met-unasked p e t (scl′ q) r = refl
-met-unasked p e t ill′ r = refl
+met-unasked : (k : Kind) (p : Phase) (e : Event) (t : Turn) → Meeting k p e t → runsOf p ≡ true → turnBegins t ≡ false
+met-unasked k p e t unawaited′ r = refl
+met-unasked k p e t ack-address′ r = refl
+met-unasked k p e t ack-sending′ r = refl
+met-unasked k p e t receive′ r = refl
+met-unasked k p e t nack-address′ r = refl
+met-unasked k p e t nack-sending′ r = refl
+met-unasked k p e t begin′ r = no r
+met-unasked k p e t (late′ q) r = refl
+met-unasked k p e t end′ r = refl
+met-unasked k p e t sda′ r = refl
+met-unasked k p e t (scl′ q) r = refl
+met-unasked k p e t ill′ r = refl
 
 beat-unasked : (p : Phase) → runsOf p ≡ true → beatBegins (beatOf p) ≡ false
 beat-unasked Idle e = no e
@@ -85,7 +86,7 @@ module _ (c : Channel) (number : ℕ) (r : runsOf (c .head .walk .phase) ≡ tru
   op-unasked : (op : Op) → opBegins c number op ≡ false
   op-unasked (Write a v) = place-unasked (placeOf number a) v
   op-unasked (Read a) = refl
-  op-unasked (Wire e) = met-unasked (c .head .walk .phase) e _ (meeting _ (c .head .regs .te) (framecntOf (c .head)) e) r
+  op-unasked (Wire e) = met-unasked _ (c .head .walk .phase) e _ (meeting (kindOf (c .head)) _ (c .head .regs .te) (framecntOf (c .head)) e) r
 
 pub runs-unasked : (c : ℕ) (p : Part) (t : Target) → runsOf (chan p c .head .walk .phase) ≡ true → asksBy c p t ≡ false
 unfolding asksBy
@@ -94,7 +95,7 @@ runs-unasked c p (All (CtrlWrite reg v)) r = refl
 runs-unasked c p (All (CtrlRead reg)) r = refl
 runs-unasked c p (All (AllTrigger edge)) r =
     edge-holds (λ b. beatBegins b ≡ false) (chan p c .head .walk .phase) (chan p c .head .regs .te) (chan p c .head .regs .tp) edge refl (beat-unasked (chan p c .head .walk .phase) r)
-runs-unasked c p (All AllReset) r = refl
+runs-unasked c p (All (AllReset z)) r = refl
 runs-unasked c p (All Beyond) r = refl
 
 pub runs-unbegun : (c : ℕ) (p : Part) (t : Target) → runsOf (chan p c .head .walk .phase) ≡ true → beginsBy c p t ≡ false
@@ -119,7 +120,7 @@ asks-unreset c p (One op d) e =
 asks-unreset c p (All (CtrlWrite reg v)) e = no e
 asks-unreset c p (All (CtrlRead reg)) e = no e
 asks-unreset c p (All (AllTrigger edge)) e = refl
-asks-unreset c p (All AllReset) e = no e
+asks-unreset c p (All (AllReset z)) e = no e
 asks-unreset c p (All Beyond) e = no e
 
 -- ---- STA, TICK and a trigger edge
@@ -147,7 +148,7 @@ module _ (c : ℕ) (p : Part) (low : c < 3) where
   sta-asks v e sta te over = rw (control-target c v low, own, control-place c low, over, e, sta, te)
 
   pub tick-asks : chan p c .head .walk .phase ≡ Waiting → tickingOf (chan p c .head .regs .te) (framecntOf (chan p c .head)) ≡ true → asksBy c p (targetOf (WireStep c Tick)) ≡ true
-  unfolding asksBy targetOf wireTarget turnOf tickTurn if_then_else_
+  unfolding asksBy targetOf wireTarget turnOf heardTurn tickTurn if_then_else_
   tick-asks e t = rw (lt-ltb c 3 low, own, t, e)
 
   pub edge-asks : (edge : Edge) → chan p c .head .walk .phase ≡ Waiting → chan p c .head .regs .te ≡ true → matchesOf (chan p c .head .regs .tp) edge ≡ true

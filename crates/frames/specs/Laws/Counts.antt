@@ -13,9 +13,9 @@ use Rattle.channel.specs.Wires.{bytesOf}
 use Rattle.mixes.specs.Mix.{Machine, ends}
 use Rattle.independent.specs.Statement.{State, Accepted}
 use Rattle.independent.specs.Laws.Keys.{no}
-use Rattle.frames.specs.Wire.{Watch, spent, endsOf, watchAfter, dataHeard, oneOf, acknowledged}
+use Rattle.frames.specs.Wire.{Slaves, Watch, spent, endsOf, watchAfter, dataHeard, oneOf, acknowledged}
 use Rattle.frames.specs.Deeds.{runsOf, resetsBy, asksBy, mayBegin, beginsBy}
-use Rattle.frames.specs.Statement.{channelOf, bufferOf, entryAt, logOf, frameOf, untilNext, Quiet}
+use Rattle.frames.specs.Statement.{channelOf, bufferOf, slavesOf, entryAt, logOf, frameOf, untilNext, Quiet}
 use Rattle.frames.specs.Laws.Goes.{one-none}
 use Rattle.frames.specs.Laws.Rests.{Unheard, none-begins, unheard-outside}
 use Rattle.frames.specs.Laws.View.{felt-outside}
@@ -88,7 +88,7 @@ module _ {A : Type 0} (M : Machine State A PartAnswer) (aim : A → Target) (f :
       (λ t. let i = silent-rest l (M .after s a) (record { accepted = u .accepted; inside = u .inside; calm = rw t at v }) in omega (arith, i))
       (λ t. let i = silent-after l (M .after s a) _ u (rw t at v) in omega (arith, i))))
 
-  module _ (sla lens : List ℕ) (k : ℕ) where
+  module _ (sla : Slaves) (lens : List ℕ) (k : ℕ) where
     -- outside a frame nothing is counted, by the channel or by the logger
     Uncounted : State → List A → Type 0
     Uncounted s x =
@@ -123,7 +123,7 @@ module _ {A : Type 0} (M : Machine State A PartAnswer) (aim : A → Target) (f :
         let y : bytesOf (channelOf c (ends M s (untilNext M aim c s l))) k ≡ bytesOf (channelOf c s) k = rw (i .0) in
         let z = i .1 w in omega (arith, y, z)
 
-    counted-frame : (l : List A) (s : State) (w : Watch) → sla ≡ channelOf c s .slatable → lens ≡ channelOf c s .tranconfig → Holding M aim f c low s w
+    counted-frame : (l : List A) (s : State) (w : Watch) → sla ≡ slavesOf (channelOf c s) → lens ≡ channelOf c s .tranconfig → Holding M aim f c low s w
         → runsOf (channelOf c s .head .walk .phase) ≡ true → Counted s w (untilNext M aim c s l)
     unfolding untilNext Counted
     counted-frame [] s w p q h r = nothing-counted s w
@@ -138,7 +138,7 @@ module _ {A : Type 0} (M : Machine State A PartAnswer) (aim : A → Target) (f :
         (λ t. rest-counted l (M .after s a) v (record { accepted = g .accepted; inside = g .inside; calm = t })) in
         let y = o .counts k in omega (arith, i, y)))
 
-    pub counted : (l : List A) (s : State) (w : Watch) → sla ≡ channelOf c s .slatable → lens ≡ channelOf c s .tranconfig → Holding M aim f c low s w
+    pub counted : (l : List A) (s : State) (w : Watch) → sla ≡ slavesOf (channelOf c s) → lens ≡ channelOf c s .tranconfig → Holding M aim f c low s w
         → runsOf (channelOf c s .head .walk .phase) ≡ true
         → bytesOf (channelOf c (ends M s (untilNext M aim c s l))) k ≡ bytesOf (channelOf c s) k + acknowledged sla lens k w (logOf M aim c s (untilNext M aim c s l))
     unfolding Counted
@@ -148,4 +148,4 @@ module _ {A : Type 0} (M : Machine State A PartAnswer) (aim : A → Target) (f :
   unfolding Uncounted Silent
   rest-quiet l s acc inside r =
       let h : Resting s = record { accepted = acc; inside = inside; calm = r } in
-      record { silent = silent-rest l s h; counts = uncounted [] [] 0 l s h .0 }
+      record { silent = silent-rest l s h; counts = uncounted (slavesOf (channelOf c s)) [] 0 l s h .0 }

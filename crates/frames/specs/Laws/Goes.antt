@@ -10,6 +10,8 @@ use lib.ListN.{getD, set, length, length-set}
 use lib.Seq.{getD-set-same, getD-set-other}
 use Rattle.laws.specs.Pick.{if_then_else_}
 use Rattle.laws.specs.Cases.{pick-holds, false-not-true}
+use Rattle.rules.specs.declared.parts.Kind.{Kind}
+use Rattle.rules.specs.declared.parts.Kind.the-variants.{Fm, Ufm}
 use Rattle.rules.specs.declared.state.Phase.{Phase}
 use Rattle.rules.specs.declared.state.Phase.the-variants.{Address, Sending, Receiving}
 use Rattle.rules.specs.Tables.{startOf, sumOf, readsOf}
@@ -19,14 +21,15 @@ use Rattle.bounds.specs.Laws.Range.{stands-of}
 use Rattle.rules.specs.declared.wires.Action.the-variants.{D, A}
 use Rattle.rules.specs.declared.wires.Event.{Event}
 use Rattle.rules.specs.declared.wires.Event.the-variants.{Ninth, Byte}
-use Rattle.rules.specs.declared.wires.Level.the-variants.{Low, High}
+use Rattle.rules.specs.declared.wires.Level.the-variants.{High}
 use Rattle.sequence.specs.declared.wires.Next.{Next}
 use Rattle.sequence.specs.declared.wires.Next.the-variants.{Cut, More, Over}
 use Rattle.sequence.specs.declared.wires.Tail.{Tail}
 use Rattle.sequence.specs.declared.wires.Tail.the-variants.{Plain, Nacked}
 use Rattle.sequence.specs.Wires.{nextOf, stopBy}
+use Rattle.sequence.specs.Laws.Meeting.{ackOf}
 use Rattle.head.specs.State.{acted}
-use Rattle.head.specs.Head.{haltOf, noted, stopped, clocked, failed}
+use Rattle.head.specs.Head.{kindOf, haltOf, noted, stopped, clocked, failed}
 use Rattle.channel.specs.declared.state.Channel.{Channel}
 use Rattle.channel.specs.declared.state.Stepped.{Stepped}
 use Rattle.channel.specs.State.{Served, leaving, on, countOf, withHead}
@@ -34,6 +37,7 @@ use Rattle.channel.specs.Wires.{slaveOf, lengthOf, bytesOf, byteAt, resolved, b
 use Rattle.frames.specs.Wire.{Heard, Watch, watchAfter, costOf, faultOf, endsOf, dataHeard, oneOf, Carries}
 use Rattle.frames.specs.Wire.Heard.{none, event}
 use Rattle.frames.specs.Deeds.{runsOf}
+use Rattle.frames.specs.Statement.{slavesOf}
 use Rattle.frames.specs.Laws.Behind.{leftOf, leftBehind, Watching, gain, Paced, Behind, onward-behind, finished-behind, stop-behind}
 
 -- the bytes of the writes are as they were
@@ -48,17 +52,28 @@ Answered (event e) r = r .answer .number ≡ 0
 
 -- one step of a frame in phase p: c and m before it, h heard, d after it
 pub record Goes (p : Phase) (c : Channel) (m : List ℕ) (w : Watch) (h : Heard) (d : Served) : Type 0 where
-  pub slas : d .stepped .channel .slatable ≡ c .slatable
+  pub slas : slavesOf (d .stepped .channel) ≡ slavesOf c
   pub lengths : d .stepped .channel .tranconfig ≡ c .tranconfig
   pub width : length (d .stepped .channel .bytecount) ≡ length (c .bytecount)
   pub left : leftOf (d .stepped .channel .head .walk .phase) (c .tranconfig) (d .stepped .channel .bytecount) + (costOf h + faultOf h) ≤ leftOf p (c .tranconfig) (c .bytecount)
-  pub watch : Watching (d .stepped .channel .head .walk .phase) (d .stepped .channel .bytecount) (watchAfter (c .slatable) (c .tranconfig) w (d .stepped .answer .action))
+  pub watch : Watching (d .stepped .channel .head .walk .phase) (d .stepped .channel .bytecount) (watchAfter (slavesOf c) (c .tranconfig) w (d .stepped .answer .action))
   pub counts : (k : ℕ) → getD (d .stepped .channel .bytecount) k 0 ≡ getD (c .bytecount) k 0 + oneOf (dataHeard w h) (w .at) k
-  pub paced : Paced (c .slatable) (c .bytecount) (w .at) (w .given) → Paced (c .slatable) (d .stepped .channel .bytecount) (w .at) (w .given + gain true (d .stepped .answer .action))
-  pub moment : Carries (c .slatable) (c .tranconfig) m w (d .stepped .answer .action)
+  pub paced : Paced (slavesOf c) (c .bytecount) (w .at) (w .given) → Paced (slavesOf c) (d .stepped .channel .bytecount) (w .at) (w .given + gain true (d .stepped .answer .action))
+  pub moment : Carries (slavesOf c) (c .tranconfig) m w (d .stepped .answer .action)
   pub kept : WritesKept c m (d .bytes)
   pub runs : runsOf (d .stepped .channel .head .walk .phase) ≡ not (endsOf h)
   pub done : Answered h (d .stepped)
+
+-- ---- what the logger has of a byte that went out: ACK, or of a UFm channel SENT
+pub record Acks (e : Event) : Type 0 where
+  pub cost : costOf (event e) ≡ 1
+  pub fault : faultOf (event e) ≡ 0
+  pub ends : endsOf (event e) ≡ false
+  pub counts : (w : Watch) → dataHeard w (event e) ≡ w .out
+
+pub acks : (k : Kind) → Acks (ackOf k)
+acks Fm = record { cost = refl; fault = refl; ends = refl; counts = λ w. refl }
+acks Ufm = record { cost = refl; fault = refl; ends = refl; counts = λ w. refl }
 
 -- ---- the counts: none is heard, or one
 pub one-none : (at k : ℕ) → oneOf false at k ≡ 0
@@ -85,9 +100,9 @@ pub record At (c : Channel) (n : ℕ) : Type 0 where
   pub room : startOf (c .tranconfig) n + lengthOf c n ≤ sumOf (c .tranconfig)
   pub next : startOf (c .tranconfig) (n + 1) ≡ startOf (c .tranconfig) n + lengthOf c n
 
-pub at-of : (p : Phase) (c : Channel) (n : ℕ) → countOf c ≤ 64 → frameAt p n (c .slatable) (c .tranconfig) (c .bytecount) ≡ true → At c n
+pub at-of : (p : Phase) (c : Channel) (n : ℕ) → countOf c ≤ 64 → frameAt (kindOf (c .head)) p n (c .slatable) (c .tranconfig) (c .bytecount) ≡ true → At c n
 at-of p c n few e =
-    let s = stands-of p _ _ _ n few e in
+    let s = stands-of _ p _ _ _ n few e in
     record { below = s .below; few = few; room = start-next (c .tranconfig) n _ (s .below); next = sym (start-more (c .tranconfig) n _ _ refl refl) }
 
 data-gain : (b : ℕ) → gain true (D b) ≡ 1
@@ -106,7 +121,7 @@ next-left halt k len = pick-holds (λ x. Left x k len) (ltb k len) (λ t. pick-h
 
 module _ (c : Channel) (m : List ℕ) (n : ℕ) (a : At c n) (w : Watch) where
   -- behind transaction n, nothing counted
-  behind-goes : (p : Phase) (h : Event) (r : Stepped) → Behind (c .slatable) (c .tranconfig) (c .bytecount) n r → w .at ≡ n
+  behind-goes : (p : Phase) (h : Event) (r : Stepped) → Behind (slavesOf c) (c .tranconfig) (c .bytecount) n r → w .at ≡ n
       → dataHeard w (event h) ≡ false → endsOf (event h) ≡ false
       → leftBehind (c .tranconfig) n + (costOf (event h) + faultOf (event h)) ≤ leftOf p (c .tranconfig) (c .bytecount) → Goes p c m w (event h) (leaving m r)
   behind-goes p h r b q d e l = record {
@@ -123,56 +138,60 @@ module _ (c : Channel) (m : List ℕ) (n : ℕ) (a : At c n) (w : Watch) where
     done = b .done;
   }
 
-  -- ---- ACK in Address
-  clocked-goes : bytesOf c n ≡ 0 → Watching (Address n) (c .bytecount) w → Goes (Address n) c m w (event (Ninth Low)) (leaving m (on c (clocked (c .head) n)))
-  unfolding clocked
-  clocked-goes z v = record {
-    slas = refl;
-    lengths = refl;
-    width = refl;
-    left = let x = a .below in let y = a .room in omega (arith, x, y, z);
-    watch = (v .0, v .1, refl);
-    counts = none-counted w (event (Ninth Low)) (c .bytecount) (v .2);
-    paced = λ h e. let y = h e in (omega (arith, y .0), omega (arith, y .1));
-    moment = tt;
-    kept = λ k j _ _ _. refl;
-    runs = refl;
-    done = refl;
-  }
+  -- ---- ACK or SENT in Address
+  module _ (ack : Event) (k : Acks ack) where
+    clocked-goes : bytesOf c n ≡ 0 → Watching (Address n) (c .bytecount) w → Goes (Address n) c m w (event ack) (leaving m (on c (clocked (c .head) n)))
+    unfolding clocked
+    clocked-goes z v = record {
+      slas = refl;
+      lengths = refl;
+      width = refl;
+      left = let x = a .below in let y = a .room in let g = k .cost in let f = k .fault in omega (arith, x, y, z, g, f);
+      watch = (v .0, v .1, refl);
+      counts = none-counted w (event ack) (c .bytecount) (k .counts w ∙ v .2);
+      paced = λ h e. let y = h e in (omega (arith, y .0), omega (arith, y .1));
+      moment = tt;
+      kept = λ i j _ _ _. refl;
+      runs = rw (k .ends);
+      done = refl;
+    }
 
-  -- the first byte of a write
-  first-goes : readsOf (slaveOf c n) ≡ false → bytesOf c n ≡ 0 → 0 < lengthOf c n → Watching (Address n) (c .bytecount) w → Goes (Address n) c m w (event (Ninth Low)) (leaving m (byteSent c m n 0))
-  unfolding byteSent
-  first-goes d z p v = record {
-    slas = refl;
-    lengths = refl;
-    width = refl;
-    left = let x = a .below in let y = a .room in omega (arith, x, y, z);
-    watch = (v .0, rw (v .1, z) refl, refl);
-    counts = none-counted w (event (Ninth Low)) (c .bytecount) (v .2);
-    paced = λ h e. let g = data-gain (getD m (startOf (c .tranconfig) n + 0) 0) in rw (v .0, v .1, z) (omega arith, omega (arith, g));
-    moment = rw (v .0, v .1) (d, p, refl);
-    kept = λ k j _ _ _. refl;
-    runs = refl;
-    done = refl;
-  }
+    -- the first byte of a write
+    first-goes : readsOf (slaveOf c n) ≡ false → bytesOf c n ≡ 0 → 0 < lengthOf c n → Watching (Address n) (c .bytecount) w → Goes (Address n) c m w (event ack) (leaving m (byteSent c m n 0))
+    unfolding byteSent
+    first-goes d z p v = record {
+      slas = refl;
+      lengths = refl;
+      width = refl;
+      left = let x = a .below in let y = a .room in let g = k .cost in let f = k .fault in omega (arith, x, y, z, g, f);
+      watch = (v .0, rw (v .1, z) refl, refl);
+      counts = none-counted w (event ack) (c .bytecount) (k .counts w ∙ v .2);
+      paced = λ h e. let g = data-gain (getD m (startOf (c .tranconfig) n + 0) 0) in rw (v .0, v .1, z) (omega arith, omega (arith, g));
+      moment = rw (v .0, v .1) (d, p, refl);
+      kept = λ i j _ _ _. refl;
+      runs = rw (k .ends);
+      done = refl;
+    }
 
-  send-first : (x : Next) → readsOf (slaveOf c n) ≡ false → Left x 0 (lengthOf c n) → bytesOf c n ≡ 0 → Watching (Address n) (c .bytecount) w
-      → Goes (Address n) c m w (event (Ninth Low)) (leaving m (sendOn c m n 0 x))
-  unfolding sendOn
-  send-first Cut d l z v = behind-goes (Address n) (Ninth Low) _ (stop-behind c n Plain) (v .0) (v .2) refl (let x = a .below in let y = a .room in let e = a .next in omega (arith, x, y, e))
-  send-first More d l z v = first-goes d z l v
-  send-first Over d l z v = behind-goes (Address n) (Ninth Low) _ (finished-behind c n Plain) (v .0) (v .2) refl (let x = a .below in let y = a .room in let e = a .next in omega (arith, x, y, e))
+    first-less : leftBehind (c .tranconfig) n + (costOf (event ack) + faultOf (event ack)) ≤ leftOf (Address n) (c .tranconfig) (c .bytecount)
+    first-less = let x = a .below in let y = a .room in let e = a .next in let g = k .cost in let f = k .fault in omega (arith, x, y, e, g, f)
 
-  pub ack-address-goes : bytesOf c n ≡ 0 → Watching (Address n) (c .bytecount) w → Goes (Address n) c m w (event (Ninth Low)) (leaving m (ackAddress c m n))
-  unfolding ackAddress
-  ack-address-goes z v =
-      pick-holds (λ r. Goes (Address n) c m w (event (Ninth Low)) (leaving m r)) (readsOf (slaveOf c n))
-      (λ _. clocked-goes z v)
-      (λ d. send-first _ d (next-left (haltOf (c .head)) 0 (lengthOf c n)) z v)
+    send-first : (x : Next) → readsOf (slaveOf c n) ≡ false → Left x 0 (lengthOf c n) → bytesOf c n ≡ 0 → Watching (Address n) (c .bytecount) w
+        → Goes (Address n) c m w (event ack) (leaving m (sendOn c m n 0 x))
+    unfolding sendOn
+    send-first Cut d l z v = behind-goes (Address n) ack _ (stop-behind c n Plain) (v .0) (k .counts w ∙ v .2) (k .ends) first-less
+    send-first More d l z v = first-goes d z l v
+    send-first Over d l z v = behind-goes (Address n) ack _ (finished-behind c n Plain) (v .0) (k .counts w ∙ v .2) (k .ends) first-less
+
+    pub ack-address-goes : bytesOf c n ≡ 0 → Watching (Address n) (c .bytecount) w → Goes (Address n) c m w (event ack) (leaving m (ackAddress c m n))
+    unfolding ackAddress
+    ack-address-goes z v =
+        pick-holds (λ r. Goes (Address n) c m w (event ack) (leaving m r)) (readsOf (slaveOf c n))
+        (λ _. clocked-goes z v)
+        (λ d. send-first _ d (next-left (haltOf (c .head)) 0 (lengthOf c n)) z v)
 
   -- ---- NACK
-  failed-goes : (p : Phase) (d : Channel) → d .slatable ≡ c .slatable → d .tranconfig ≡ c .tranconfig → d .bytecount ≡ c .bytecount
+  failed-goes : (p : Phase) (d : Channel) → slavesOf d ≡ slavesOf c → d .tranconfig ≡ c .tranconfig → d .bytecount ≡ c .bytecount
       → 2 ≤ leftOf p (c .tranconfig) (c .bytecount) → Goes p c m w (event (Ninth High)) (leaving m (on d (failed (d .head))))
   unfolding failed
   failed-goes p d s l k g = record {
@@ -197,7 +216,7 @@ module _ (c : Channel) (m : List ℕ) (n : ℕ) (a : At c n) (w : Watch) where
       (λ _. behind-goes p (Ninth High) _ (onward-behind d n Plain) q refl refl (omega (arith, l)))
       (λ _. failed-goes p d refl refl refl (omega (arith, l)))
 
--- ---- ACK in Sending and BYTE in Receiving: one byte more is counted
+-- ---- ACK or SENT in Sending and BYTE in Receiving: one byte more is counted
 module _ (c : Channel) (m : List ℕ) (n : ℕ) (a : At c n) (w : Watch) (wide : n < length (c .bytecount)) (short : bytesOf c n < lengthOf c n) where
   -- the counts after it
   abbrev more : List ℕ
@@ -209,8 +228,8 @@ module _ (c : Channel) (m : List ℕ) (n : ℕ) (a : At c n) (w : Watch) (wide :
   counted : (h : Heard) → dataHeard w h ≡ true → w .at ≡ n → (k : ℕ) → getD more k 0 ≡ getD (c .bytecount) k 0 + oneOf (dataHeard w h) (w .at) k
   counted h d q k = rw (d, q) (one-counted (c .bytecount) n k wide)
 
-  behind-counted : (p : Phase) (h : Event) (r : Stepped) (m′ : List ℕ) → Behind (c .slatable) (c .tranconfig) more n r → w .at ≡ n
-      → dataHeard w (event h) ≡ true → endsOf (event h) ≡ false → Paced (c .slatable) more (w .at) (w .given)
+  behind-counted : (p : Phase) (h : Event) (r : Stepped) (m′ : List ℕ) → Behind (slavesOf c) (c .tranconfig) more n r → w .at ≡ n
+      → dataHeard w (event h) ≡ true → endsOf (event h) ≡ false → Paced (slavesOf c) more (w .at) (w .given)
       → leftBehind (c .tranconfig) n + (costOf (event h) + faultOf (event h)) ≤ leftOf p (c .tranconfig) (c .bytecount) → WritesKept c m m′ → Goes p c m w (event h) (leaving m′ r)
   behind-counted p h r m′ b q d e f l k = record {
     slas = b .slas;
@@ -227,49 +246,51 @@ module _ (c : Channel) (m : List ℕ) (n : ℕ) (a : At c n) (w : Watch) (wide :
   }
 
   -- the byte that was out is counted now
-  sent-paced : Watching (Sending n) (c .bytecount) w → Paced (c .slatable) more (w .at) (w .given)
+  sent-paced : Watching (Sending n) (c .bytecount) w → Paced (slavesOf c) more (w .at) (w .given)
   sent-paced v e = rw (v .0, v .1, same) (omega arith, omega arith)
 
-  -- the next byte of a write
-  next-goes : readsOf (slaveOf c n) ≡ false → bytesOf c n + 1 < lengthOf c n → Watching (Sending n) (c .bytecount) w
-      → Goes (Sending n) c m w (event (Ninth Low)) (leaving m (byteSent (countedOne c n) m n (bytesOf c n + 1)))
-  unfolding byteSent countedOne
-  next-goes d l v = record {
-    slas = refl;
-    lengths = refl;
-    width = length-set (c .bytecount) n _;
-    left = let x = a .room in let e = same in omega (arith, x, e, short);
-    watch = (v .0, rw (v .1, same) refl, refl);
-    counts = counted (event (Ninth Low)) (v .2) (v .0);
-    paced = λ h e. let g = data-gain (getD m (startOf (c .tranconfig) n + (bytesOf c n + 1)) 0) in rw (v .0, v .1, same) (omega (arith, g), omega (arith, g));
-    moment = rw (v .0, v .1) (d, l, refl);
-    kept = λ k j _ _ _. refl;
-    runs = refl;
-    done = refl;
-  }
-
   -- after it: a stop, or the next transaction
-  ended-counted : (t : Tail) → Behind (c .slatable) (c .tranconfig) more n (finished (countedOne c n) n t)
+  ended-counted : (t : Tail) → Behind (slavesOf c) (c .tranconfig) more n (finished (countedOne c n) n t)
   unfolding countedOne
   ended-counted t = finished-behind _ n t
 
-  cut-counted : (t : Tail) → Behind (c .slatable) (c .tranconfig) more n (on (countedOne c n) (stopped (c .head) (stopBy t)))
+  cut-counted : (t : Tail) → Behind (slavesOf c) (c .tranconfig) more n (on (countedOne c n) (stopped (c .head) (stopBy t)))
   unfolding countedOne
   cut-counted t = stop-behind _ n t
 
   left-less : leftBehind (c .tranconfig) n + 1 ≤ leftOf (Sending n) (c .tranconfig) (c .bytecount)
   left-less = let x = a .room in let e = a .next in omega (arith, x, e, short)
 
-  send-more : (x : Next) → readsOf (slaveOf c n) ≡ false → Left x (bytesOf c n + 1) (lengthOf c n) → Watching (Sending n) (c .bytecount) w
-      → Goes (Sending n) c m w (event (Ninth Low)) (leaving m (sendOn (countedOne c n) m n (bytesOf c n + 1) x))
-  unfolding sendOn countedOne
-  send-more Cut d l v = behind-counted (Sending n) (Ninth Low) _ m (cut-counted Plain) (v .0) (v .2) refl (sent-paced v) left-less (λ k j _ _ _. refl)
-  send-more More d l v = next-goes d l v
-  send-more Over d l v = behind-counted (Sending n) (Ninth Low) _ m (ended-counted Plain) (v .0) (v .2) refl (sent-paced v) left-less (λ k j _ _ _. refl)
+  -- ---- ACK or SENT
+  module _ (ack : Event) (k : Acks ack) where
+    -- the next byte of a write
+    next-goes : readsOf (slaveOf c n) ≡ false → bytesOf c n + 1 < lengthOf c n → Watching (Sending n) (c .bytecount) w
+        → Goes (Sending n) c m w (event ack) (leaving m (byteSent (countedOne c n) m n (bytesOf c n + 1)))
+    unfolding byteSent countedOne
+    next-goes d l v = record {
+      slas = refl;
+      lengths = refl;
+      width = length-set (c .bytecount) n _;
+      left = let x = a .room in let e = same in let g = k .cost in let f = k .fault in omega (arith, x, e, short, g, f);
+      watch = (v .0, rw (v .1, same) refl, refl);
+      counts = counted (event ack) (k .counts w ∙ v .2) (v .0);
+      paced = λ h e. let g = data-gain (getD m (startOf (c .tranconfig) n + (bytesOf c n + 1)) 0) in rw (v .0, v .1, same) (omega (arith, g), omega (arith, g));
+      moment = rw (v .0, v .1) (d, l, refl);
+      kept = λ i j _ _ _. refl;
+      runs = rw (k .ends);
+      done = refl;
+    }
 
-  pub ack-sending-goes : readsOf (slaveOf c n) ≡ false → Watching (Sending n) (c .bytecount) w → Goes (Sending n) c m w (event (Ninth Low)) (leaving m (ackSending c m n))
-  unfolding ackSending
-  ack-sending-goes d v = send-more _ d (next-left (haltOf (c .head)) (bytesOf c n + 1) (lengthOf c n)) v
+    send-more : (x : Next) → readsOf (slaveOf c n) ≡ false → Left x (bytesOf c n + 1) (lengthOf c n) → Watching (Sending n) (c .bytecount) w
+        → Goes (Sending n) c m w (event ack) (leaving m (sendOn (countedOne c n) m n (bytesOf c n + 1) x))
+    unfolding sendOn countedOne
+    send-more Cut d l v = behind-counted (Sending n) ack _ m (cut-counted Plain) (v .0) (k .counts w ∙ v .2) (k .ends) (sent-paced v) (let x = left-less in let g = k .cost in let f = k .fault in omega (arith, x, g, f)) (λ i j _ _ _. refl)
+    send-more More d l v = next-goes d l v
+    send-more Over d l v = behind-counted (Sending n) ack _ m (ended-counted Plain) (v .0) (k .counts w ∙ v .2) (k .ends) (sent-paced v) (let x = left-less in let g = k .cost in let f = k .fault in omega (arith, x, g, f)) (λ i j _ _ _. refl)
+
+    pub ack-sending-goes : readsOf (slaveOf c n) ≡ false → Watching (Sending n) (c .bytecount) w → Goes (Sending n) c m w (event ack) (leaving m (ackSending c m n))
+    unfolding ackSending
+    ack-sending-goes d v = send-more _ d (next-left (haltOf (c .head)) (bytesOf c n + 1) (lengthOf c n)) v
 
   -- ---- BYTE: stored within the transaction, which is a read
   module _ (b : ℕ) (at : c .head .walk .phase ≡ Receiving n) (reads : readsOf (slaveOf c n) ≡ true) (v : Watching (Receiving n) (c .bytecount) w) where
@@ -291,7 +312,7 @@ module _ (c : Channel) (m : List ℕ) (n : ℕ) (a : At c n) (w : Watch) (wide :
             let r : readsOf (slaveOf c n) ≡ false = rw (← q) write in
             let z = false-not-true (sym r ∙ reads) in omega (arith, z)
 
-    read-paced : (l : List ℕ) (k : ℕ) → Paced (c .slatable) l (w .at) k
+    read-paced : (l : List ℕ) (k : ℕ) → Paced (slavesOf c) l (w .at) k
     read-paced l k e = absurd (let r : readsOf (slaveOf c n) ≡ false = rw (← v .0) e in let z = false-not-true (sym r ∙ reads) in omega (arith, z))
 
     again-goes : Goes (Receiving n) c m w (event (Byte b)) (leaving stored (on (countedOne c n) (acted (c .head) A)))

@@ -9,6 +9,8 @@ use lib.Dec.{eqb, ltb}
 use lib.ListN.{getD, replicate}
 use Rattle.laws.specs.Pick.{if_then_else_}
 use Rattle.laws.specs.Cases.{pick-holds, both}
+use Rattle.rules.specs.declared.parts.Kind.{Kind}
+use Rattle.rules.specs.declared.parts.Straps.{Straps}
 use Rattle.rules.specs.declared.state.Phase.{Phase}
 use Rattle.rules.specs.declared.state.Phase.the-variants.{Idle, Address, Sending, Receiving, Stopping, Waiting}
 use Rattle.rules.specs.declared.registers.Register.{Register}
@@ -41,7 +43,7 @@ use Rattle.steps.specs.declared.map.Op.{Op}
 use Rattle.steps.specs.declared.map.Op.the-variants.{Write, Read, Wire}
 use Rattle.head.specs.declared.state.Head.{Head}
 use Rattle.head.specs.State.{plain, refused, answered}
-use Rattle.head.specs.Head.{framecntOf, frameEnded}
+use Rattle.head.specs.Head.{framecntOf, kindOf, frameEnded}
 use Rattle.head.specs.Access.{refusalOf}
 use Rattle.channel.specs.declared.state.Channel.{Channel}
 use Rattle.channel.specs.declared.state.Stepped.{Stepped}
@@ -51,10 +53,10 @@ use Rattle.channel.specs.Wires.{slaveOf, passed, sentTo, startedBy, started, cl
 use Rattle.channel.specs.Step.{writeAt, readAt, eventAt, servedBy}
 use Rattle.works.specs.Laws.Keys.{rekeyed}
 use Rattle.independent.specs.Laws.Keys.{no}
-use Rattle.frames.specs.Wire.{Heard, Watch, costOf, dataHeard}
+use Rattle.frames.specs.Wire.{Heard, Slaves, nextFrom, Watch, costOf, dataHeard}
 use Rattle.frames.specs.Wire.Heard.{none}
 use Rattle.frames.specs.Deeds.{runsOf, heardOp, placeResets, opResets, askBegins, turnBegins, beatBegins, isControl, regBegins, placeBegins, opBegins, fitOf, mayBegin}
-use Rattle.frames.specs.Statement.{firstOf}
+use Rattle.frames.specs.Statement.{firstOf, slavesOf}
 use Rattle.frames.specs.Laws.Steps.{read-stays, edge-holds, ended-runs}
 
 -- ---- where a begin leads; it leaves the tables
@@ -67,16 +69,16 @@ pub data Starts (c : Channel) (r : Stepped) : Type 0 where
   unfit : mayBegin c ≡ false → fitting (c .tranconfig) ≡ false → r .channel .head .walk .phase ≡ Idle → r .channel .bytecount ≡ c .bytecount → r .answer .action ≡ NoAction → Starts c r
 
 pub record Started (c : Channel) (r : Stepped) : Type 0 where
-  pub slas : r .channel .slatable ≡ c .slatable
+  pub slas : slavesOf (r .channel) ≡ slavesOf c
   pub lengths : r .channel .tranconfig ≡ c .tranconfig
   pub starts : Starts c r
 
 -- the first that is not skipped is no further than the count
-sent-to : (sla lens : List ℕ) (i left : ℕ) → sentFrom sla lens i left ≤ i + left
+sent-to : (kind : Kind) (sla lens : List ℕ) (i left : ℕ) → sentFrom kind sla lens i left ≤ i + left
 unfolding sentFrom
-sent-to sla lens i zero = omega arith
-sent-to sla lens i (suc left) =
-    pick-holds (λ k. k ≤ i + suc left) (skippedOf (getD sla i 0) (getD lens (i + 1) 0)) (λ _. let h = sent-to sla lens (i + 1) left in omega (arith, h)) (λ _. omega arith)
+sent-to kind sla lens i zero = omega arith
+sent-to kind sla lens i (suc left) =
+    pick-holds (λ k. k ≤ i + suc left) (skippedOf kind (getD sla i 0) (getD lens (i + 1) 0)) (λ _. let h = sent-to kind sla lens (i + 1) left in omega (arith, h)) (λ _. omega arith)
 
 module _ (c : Channel) where
   -- the first that is not skipped, or none
@@ -88,7 +90,7 @@ module _ (c : Channel) where
   unfolding moveOf if_then_else_ First
   first-move =
       pick-holds First (ltb (firstOf c) (countOf c)) (λ _. refl)
-      (λ t. let h = ltb-false (firstOf c) (countOf c) t in let g = sent-to (c .slatable) (c .tranconfig) 0 (countOf c - 0) in omega (arith, h, g))
+      (λ t. let h = ltb-false (firstOf c) (countOf c) t in let g = sent-to (kindOf (c .head)) (c .slatable) (c .tranconfig) 0 (countOf c - 0) in omega (arith, h, g))
 
   moved-starts : mayBegin c ≡ true → (m : Move) → First m → Started c (startedBy (passed (cleared c) 0 (firstOf c)) m)
   unfolding startedBy passed cleared sentTo frameEnded First
@@ -115,15 +117,22 @@ module _ (c : Channel) where
       (λ p. pick-holds Leads (fitting (c .tranconfig)) (λ q. moved-starts (may true p q) _ first-move)
       (λ t. record { slas = refl; lengths = refl; starts = unfit (may false p t) t refl refl refl }))
 
--- whatever the head
-head-starts : (c : Channel) (h : Head) (r : Stepped) → Starts (withHead c h) r → Starts c r
-head-starts c h r (first e p k x) = first e p k x
-head-starts c h r (skipped e q p k x) = skipped e q p k x
-head-starts c h r (empty e q p k x) = empty e q p k x
-head-starts c h r (unfit e q p k x) = unfit e q p k x
+-- whatever the head, where the same was chosen of it
+module _ (c : Channel) (h : Head) (chosen : h .straps ≡ c .head .straps) where
+  same-slaves : slavesOf (withHead c h) ≡ slavesOf c
+  same-slaves = ap (λ (x : Straps). record { kind = x .kind; table = c .slatable }) chosen
 
-pub head-begun : (c : Channel) (h : Head) → Started c (begun (withHead c h))
-head-begun c h = let s = begun-starts (withHead c h) in record { slas = s .slas; lengths = s .lengths; starts = head-starts c h _ (s .starts) }
+  same-first : firstOf (withHead c h) ≡ firstOf c
+  same-first = ap (λ (x : Slaves). nextFrom x (c .tranconfig) 0) same-slaves
+
+  head-starts : (r : Stepped) → Starts (withHead c h) r → Starts c r
+  head-starts r (first e p k x) = first e (p ∙ ap Address same-first) k (x ∙ ap (λ (n : ℕ). S (slaveOf c n)) same-first)
+  head-starts r (skipped e q p k x) = skipped e (sym same-first ∙ q) p k x
+  head-starts r (empty e q p k x) = empty e q p k x
+  head-starts r (unfit e q p k x) = unfit e q p k x
+
+  pub head-begun : Started c (begun (withHead c h))
+  head-begun = let s = begun-starts (withHead c h) in record { slas = s .slas ∙ same-slaves; lengths = s .lengths; starts = head-starts _ (s .starts) }
 
 -- ---- a step that asks for no frame
 pub record Rests (c : Channel) (d : Served) : Type 0 where
@@ -139,7 +148,7 @@ pub record Unheard (h : Heard) : Type 0 where
 -- what a step is outside a frame, by whether it asks for one
 pub data Outside (c : Channel) (m : List ℕ) (h : Heard) (d : Served) : Bool → Type 0 where
   rests : Rests c d → Unheard h → Outside c m h d false
-  asks : (x : Head) → d ≡ leaving m (begun (withHead c x)) → Unheard h → Outside c m h d true
+  asks : (x : Head) → x .straps ≡ c .head .straps → d ≡ leaving m (begun (withHead c x)) → Unheard h → Outside c m h d true
 
 nothing-heard : Unheard none
 nothing-heard = record { free = refl; dumb = λ w. refl }
@@ -190,20 +199,20 @@ module _ (c : Channel) (m : List ℕ) (calm : runsOf (c .head .walk .phase) ≡ 
   kept n = idle (c .head) n 0 calm
 
   -- ---- accesses
-  asked-outside : (h : Head) → runsOf (h .walk .phase) ≡ false → (a : Ask) → Access (leaving m (asked (withHead c h) a)) (askBegins a)
+  asked-outside : (h : Head) → h .straps ≡ c .head .straps → runsOf (h .walk .phase) ≡ false → (a : Ask) → Access (leaving m (asked (withHead c h) a)) (askBegins a)
   unfolding asked endWalk
-  asked-outside h e Nothing = rests (idle _ _ _ e) nothing-heard
-  asked-outside h e Overrun = rests (idle _ _ _ e) nothing-heard
-  asked-outside h e Begin = asks h refl nothing-heard
-  asked-outside h e Wait = rests (idle _ _ _ refl) nothing-heard
-  asked-outside h e Sto = rests (idle _ _ _ e) nothing-heard
-  asked-outside h e Seq = rests (idle _ _ _ e) nothing-heard
-  asked-outside h e Leave = rests (idle _ _ _ refl) nothing-heard
+  asked-outside h q e Nothing = rests (idle _ _ _ e) nothing-heard
+  asked-outside h q e Overrun = rests (idle _ _ _ e) nothing-heard
+  asked-outside h q e Begin = asks h q refl nothing-heard
+  asked-outside h q e Wait = rests (idle _ _ _ refl) nothing-heard
+  asked-outside h q e Sto = rests (idle _ _ _ e) nothing-heard
+  asked-outside h q e Seq = rests (idle _ _ _ e) nothing-heard
+  asked-outside h q e Leave = rests (idle _ _ _ refl) nothing-heard
 
   written-outside : (reg : Register) (v : ℕ) → Access (writtenBy c m reg v) (regBegins c reg v)
   unfolding writtenBy controlled if_then_else_
   written-outside (Status n) v = moved _ refl refl refl
-  written-outside Control v = asked-outside _ calm _
+  written-outside Control v = asked-outside _ refl calm _
   written-outside Chstatus v = moved _ refl refl refl
   written-outside Intmsk v = moved _ refl refl refl
   written-outside Slatable v = moved _ refl refl refl
@@ -240,20 +249,20 @@ module _ (c : Channel) (m : List ℕ) (calm : runsOf (c .head .walk .phase) ≡ 
   unfolding heardOp
   begin-heard number = pick-holds Unheard (eqb number 0) (λ _. record { free = refl; dumb = λ w. refl }) (λ _. nothing-heard)
 
-  met-outside : (p : Phase) (e : Event) (t : Turn) → Meeting p e t → runsOf p ≡ false → Hears e (turned c m t) (turnBegins t)
+  met-outside : (k : Kind) (p : Phase) (e : Event) (t : Turn) → Meeting k p e t → runsOf p ≡ false → Hears e (turned c m t) (turnBegins t)
   unfolding turned heardOp if_then_else_
-  met-outside p e t unawaited′ r = rests (kept notAwaited) nothing-heard
-  met-outside p e t ack-address′ r = no (sym r)
-  met-outside p e t ack-sending′ r = no (sym r)
-  met-outside p e t receive′ r = no (sym r)
-  met-outside p e t nack-address′ r = no (sym r)
-  met-outside p e t nack-sending′ r = no (sym r)
-  met-outside p e t begin′ r = asks (c .head) refl (begin-heard (begun c .answer .number))
-  met-outside p e t (late′ f) r = not-late p r f
-  met-outside p e t end′ r = no (sym r)
-  met-outside p e t sda′ r = no (sym r)
-  met-outside p e t (scl′ f) r = rests (idle _ _ _ refl) (record { free = refl; dumb = λ w. refl })
-  met-outside p e t ill′ r = rests (idle _ _ _ refl) (record { free = refl; dumb = λ w. refl })
+  met-outside k p e t unawaited′ r = rests (kept notAwaited) nothing-heard
+  met-outside k p e t ack-address′ r = no (sym r)
+  met-outside k p e t ack-sending′ r = no (sym r)
+  met-outside k p e t receive′ r = no (sym r)
+  met-outside k p e t nack-address′ r = no (sym r)
+  met-outside k p e t nack-sending′ r = no (sym r)
+  met-outside k p e t begin′ r = asks (c .head) refl refl (begin-heard (begun c .answer .number))
+  met-outside k p e t (late′ f) r = not-late p r f
+  met-outside k p e t end′ r = no (sym r)
+  met-outside k p e t sda′ r = no (sym r)
+  met-outside k p e t (scl′ f) r = rests (idle _ _ _ refl) (record { free = refl; dumb = λ w. refl })
+  met-outside k p e t ill′ r = rests (idle _ _ _ refl) (record { free = refl; dumb = λ w. refl })
 
   -- ---- a beat
   beats-outside : (p : Phase) → runsOf p ≡ false → Access (leaving m (beaten c (beatOf p))) (beatBegins (beatOf p))
@@ -263,7 +272,7 @@ module _ (c : Channel) (m : List ℕ) (calm : runsOf (c .head .walk .phase) ≡ 
   beats-outside (Sending n) e = no (sym e)
   beats-outside (Receiving n) e = no (sym e)
   beats-outside Stopping e = no (sym e)
-  beats-outside Waiting e = asks (c .head) refl nothing-heard
+  beats-outside Waiting e = asks (c .head) refl refl nothing-heard
 
   pub edge-outside : (edge : Edge) → Access (leaving m (triggered c edge)) (beatBegins (edgeBeat (c .head .walk .phase) (c .head .regs .te) (c .head .regs .tp) edge))
   unfolding triggered beaten
@@ -277,7 +286,7 @@ module _ (c : Channel) (m : List ℕ) (calm : runsOf (c .head .walk .phase) ≡ 
 -- the key is nothing to it: what comes of the record with another key comes of this one
 pub rekeyed-outside : (k : Bool) (c : Channel) (m : List ℕ) (h : Heard) (d : Served) (b : Bool) → Outside (rekeyed k c) m h d b → Outside c m h d b
 rekeyed-outside k c m h d false (rests r u) = rests (record { counted = r .counted; runs = r .runs; action = r .action }) u
-rekeyed-outside k c m h d true (asks x e u) = asks x e u
+rekeyed-outside k c m h d true (asks x q e u) = asks x q e u
 
 -- ---- a step of channel `number` that does not reset it
 module _ (c : Channel) (m : List ℕ) (number : ℕ) (low : number < 3) (calm : runsOf (c .head .walk .phase) ≡ false) where
@@ -293,7 +302,7 @@ module _ (c : Channel) (m : List ℕ) (number : ℕ) (low : number < 3) (calm : 
   own-outside (Read a) e = read-outside c m calm (placeOf number a)
   own-outside (Wire x) e =
       rw (le-ltb 2 number (omega (arith, low)))
-      (met-outside c m calm (c .head .walk .phase) x _ (meeting _ (c .head .regs .te) (framecntOf (c .head)) x) calm)
+      (met-outside c m calm _ (c .head .walk .phase) x _ (meeting (kindOf (c .head)) _ (c .head .regs .te) (framecntOf (c .head)) x) calm)
 
 -- ---- none begins where the count is 0 or the lengths don't fit
 began-rests : (c : Channel) (m : List ℕ) (b : Beginning) → fitOf b ≡ false → Rests c (leaving m (beganBy c b))
@@ -305,9 +314,9 @@ began-rests c m Fit e = no (sym e)
 pub none-begins : (c : Channel) (m : List ℕ) (h : Heard) (d : Served) (b : Bool) → Outside c m h d b → (b ≡ true → mayBegin c ≡ false) → Rests c d
 unfolding begun
 none-begins c m h d false (rests r u) f = r
-none-begins c m h d true (asks x e u) f =
+none-begins c m h d true (asks x q e u) f =
     let r = began-rests (withHead c x) m _ (f refl) in rw e (record { counted = r .counted; runs = r .runs; action = r .action })
 
 pub unheard-outside : (c : Channel) (m : List ℕ) (h : Heard) (d : Served) (b : Bool) → Outside c m h d b → Unheard h
 unheard-outside c m h d false (rests r u) = u
-unheard-outside c m h d true (asks x e u) = u
+unheard-outside c m h d true (asks x q e u) = u

@@ -2,7 +2,7 @@
 use Prim.Native.Nat.{ℕ, zero, suc, _+_, _<_, _≤_}
 use mathlib.Core.Bool.{Bool, true, false, not}
 use mathlib.Core.List.{List, [], _∷_}
-use mathlib.Core.Path.{_≡_, refl, _∙_, ap}
+use mathlib.Core.Path.{_≡_, refl, sym, _∙_, ap, subst}
 use native.Mathlib.Omega.{arith}
 use borrow.Author.Tests.{ltb-true, ltb-false, eqb-true, eqb-false, eq-eqb, ne-eqb}
 use lib.Dec.{eqb, ltb}
@@ -23,9 +23,9 @@ use Rattle.part.specs.Step.{partServed, partStored}
 use Rattle.part.specs.Laws.Range.{accepts-whole, chan-in-range}
 use Rattle.mixes.specs.Mix.{Machine, ends}
 use Rattle.independent.specs.Statement.{State, Accepted}
-use Rattle.frames.specs.Wire.{Entry, Watch, costOf, faultOf, spent, faults, endsOf, watchAfter, dataHeard, oneOf, withData, sent, Carries}
+use Rattle.frames.specs.Wire.{Entry, Slaves, Watch, costOf, faultOf, spent, faults, endsOf, watchAfter, dataHeard, oneOf, withData, sent, Carries}
 use Rattle.frames.specs.Deeds.{runsOf, heardBy, resetsBy, beginsBy}
-use Rattle.frames.specs.Statement.{channelOf, bufferOf, entryAt, logOf, frameOf, runsOn, untilNext, Momentary}
+use Rattle.frames.specs.Statement.{channelOf, bufferOf, slavesOf, entryAt, logOf, frameOf, runsOn, untilNext, Momentary}
 use Rattle.frames.specs.Laws.Behind.{leftOf, Watching, gain, Paced}
 use Rattle.frames.specs.Laws.Goes.{WritesKept}
 use Rattle.frames.specs.Laws.Steps.{Under}
@@ -37,20 +37,20 @@ data Moves (lens : List ℕ) (w v : Watch) (a : Action) : Type 0 where
   same : v .at ≡ w .at → v .given ≡ w .given + gain true a → v .given ≤ getD lens (v .at + 1) 0 → Moves lens w v a
   next : w .at < v .at → v .given ≡ 0 → gain true a ≡ 0 → Moves lens w v a
 
-moves : (sla lens m : List ℕ) (w : Watch) (a : Action) → w .given ≤ getD lens (w .at + 1) 0 → Carries sla lens m w a → Moves lens w (watchAfter sla lens w a) a
+moves : (sla : Slaves) (lens m : List ℕ) (w : Watch) (a : Action) → w .given ≤ getD lens (w .at + 1) 0 → Carries sla lens m w a → Moves lens w (watchAfter sla lens w a) a
 unfolding if_then_else_
 moves sla lens m w Nothing g x = same refl (omega arith) g
 moves sla lens m w (S z) g x = absurd x
-moves sla lens m w (R z) g x = let f = first-from sla lens (w .at + 1) (getD lens 0 0) in next (omega (arith, f)) refl refl
+moves sla lens m w (R z) g x = let f = first-from (sla .kind) (sla .table) lens (w .at + 1) (getD lens 0 0) in next (omega (arith, f)) refl refl
 moves sla lens m w (D b) g x = same refl refl (let h = x .1 in omega (arith, h))
 moves sla lens m w C g x = same refl (omega arith) g
 moves sla lens m w A g x = same refl (omega arith) g
 moves sla lens m w Np g x = same refl (omega arith) g
-moves sla lens m w (Nr z) g x = let f = first-from sla lens (w .at + 1) (getD lens 0 0) in next (omega (arith, f)) refl refl
+moves sla lens m w (Nr z) g x = let f = first-from (sla .kind) (sla .table) lens (w .at + 1) (getD lens 0 0) in next (omega (arith, f)) refl refl
 moves sla lens m w P g x = same refl (omega arith) g
 
 -- the bytes sent so far, at the next transaction or at the same
-paced-on : (sla lens counts : List ℕ) (w v : Watch) (a : Action) → Moves lens w v a
+paced-on : (sla : Slaves) (lens counts : List ℕ) (w v : Watch) (a : Action) → Moves lens w v a
     → Paced sla counts (w .at) (w .given + gain true a) → ((k : ℕ) → w .at < k → getD counts k 0 ≡ 0) → Paced sla counts (v .at) (v .given)
 paced-on sla lens counts w v a (same p q r) h z = rw (p, q) h
 paced-on sla lens counts w v a (next p q r) h z = λ e. let y = z (v .at) p in rw (q, y) (omega arith, omega arith)
@@ -118,7 +118,7 @@ module _ (lens m : List ℕ) (k n count : ℕ) where
   none-more l f = let z : n + 0 ≡ n = omega arith in rw z at f
 
   -- one entry more
-  data-more : (sla : List ℕ) (w : Watch) (here : Bool) (a : Action) (l : List ℕ) → (here ≡ true → (w .at ≡ k) × (n ≡ w .given)) → Carries sla lens m w a
+  data-more : (sla : Slaves) (w : Watch) (here : Bool) (a : Action) (l : List ℕ) → (here ≡ true → (w .at ≡ k) × (n ≡ w .given)) → Carries sla lens m w a
       → Fetched lens m k (n + gain here a) l count → Fetched lens m k n (withData here a l) count
   unfolding if_then_else_
   data-more sla w here Nothing l h x f = none-more l f
@@ -212,21 +212,21 @@ module _ {A : Type 0} (M : Machine State A PartAnswer) (aim : A → Target) (f :
     pub wide : length (channelOf c s .bytecount) ≡ 64
     pub watching : Watching (channelOf c s .head .walk .phase) (channelOf c s .bytecount) w
     pub given : w .given ≤ lengthOf (channelOf c s) (w .at)
-    pub paced : Paced (channelOf c s .slatable) (channelOf c s .bytecount) (w .at) (w .given)
+    pub paced : Paced (slavesOf (channelOf c s)) (channelOf c s .bytecount) (w .at) (w .given)
     pub clear : (k : ℕ) → w .at < k → bytesOf (channelOf c s) k ≡ 0
 
   abbrev watchOn : State → Watch → A → Watch
-  watchOn s w a = watchAfter (channelOf c s .slatable) (channelOf c s .tranconfig) w (entry s a .action)
+  watchOn s w a = watchAfter (slavesOf (channelOf c s)) (channelOf c s .tranconfig) w (entry s a .action)
 
   -- one step of a frame
   pub record One (s : State) (w : Watch) (a : A) : Type 0 where
     pub holding : Holding (M .after s a) (watchOn s w a)
-    pub slas : channelOf c (M .after s a) .slatable ≡ channelOf c s .slatable
+    pub slas : slavesOf (channelOf c (M .after s a)) ≡ slavesOf (channelOf c s)
     pub lengths : channelOf c (M .after s a) .tranconfig ≡ channelOf c s .tranconfig
     pub left : leftAt c (M .after s a) + (costOf (entry s a .heard) + faultOf (entry s a .heard)) ≤ leftAt c s
     pub counts : (k : ℕ) → bytesOf (channelOf c (M .after s a)) k ≡ bytesOf (channelOf c s) k + oneOf (dataHeard w (entry s a .heard)) (w .at) k
-    pub paced : Paced (channelOf c s .slatable) (channelOf c (M .after s a) .bytecount) (w .at) (w .given + gain true (entry s a .action))
-    pub moment : Carries (channelOf c s .slatable) (channelOf c s .tranconfig) (bufferOf c s) w (entry s a .action)
+    pub paced : Paced (slavesOf (channelOf c s)) (channelOf c (M .after s a) .bytecount) (w .at) (w .given + gain true (entry s a .action))
+    pub moment : Carries (slavesOf (channelOf c s)) (channelOf c s .tranconfig) (bufferOf c s) w (entry s a .action)
     pub kept : WritesKept (channelOf c s) (bufferOf c s) (bufferOf c (M .after s a))
     pub runs : runsOf (channelOf c (M .after s a) .head .walk .phase) ≡ not (endsOf (entry s a .heard))
     pub unreset : resetsBy c (s .part) (aim a) ≡ false
@@ -246,11 +246,11 @@ module _ {A : Type 0} (M : Machine State A PartAnswer) (aim : A → Target) (f :
         runs = r;
       } in
       let g = felt-goes (s .part) (bufferOf c s) c low (aim a) e w u in
-      let slas : channelOf c (M .after s a) .slatable ≡ channelOf c s .slatable = rw (t .is) (g .slas) in
-      let moment : Carries (channelOf c s .slatable) (channelOf c s .tranconfig) (bufferOf c s) w (entry s a .action) = rw (t .action) (g .moment) in
+      let slas : slavesOf (channelOf c (M .after s a)) ≡ slavesOf (channelOf c s) = rw (t .is) (g .slas) in
+      let moment : Carries (slavesOf (channelOf c s)) (channelOf c s .tranconfig) (bufferOf c s) w (entry s a .action) = rw (t .action) (g .moment) in
       let counts : (k : ℕ) → bytesOf (channelOf c (M .after s a)) k ≡ bytesOf (channelOf c s) k + oneOf (dataHeard w (entry s a .heard)) (w .at) k = λ k. rw (t .is, t .heard) (g .counts k) in
-      let paced : Paced (channelOf c s .slatable) (channelOf c (M .after s a) .bytecount) (w .at) (w .given + gain true (entry s a .action)) = rw (t .is, t .action) (g .paced (h .paced)) in
-      let v = moves (channelOf c s .slatable) (channelOf c s .tranconfig) (bufferOf c s) w (entry s a .action) (h .given) moment in
+      let paced : Paced (slavesOf (channelOf c s)) (channelOf c (M .after s a) .bytecount) (w .at) (w .given + gain true (entry s a .action)) = rw (t .is, t .action) (g .paced (h .paced)) in
+      let v = moves (slavesOf (channelOf c s)) (channelOf c s .tranconfig) (bufferOf c s) w (entry s a .action) (h .given) moment in
       let clear : (k : ℕ) → w .at < k → bytesOf (channelOf c (M .after s a)) k ≡ 0 = λ k q.
       let x = h .clear k q in
       let y = one-other (dataHeard w (entry s a .heard)) (w .at) k (λ e. omega (arith, e, q)) in
@@ -263,7 +263,9 @@ module _ {A : Type 0} (M : Machine State A PartAnswer) (aim : A → Target) (f :
           wide = rw (t .is) (g .width ∙ h .wide);
           watching = rw (t .is, t .action) (g .watch);
           given = rw (t .is, g .lengths) (given-on (channelOf c s .tranconfig) w _ _ v);
-          paced = rw slas (paced-on (channelOf c s .slatable) (channelOf c s .tranconfig) (channelOf c (M .after s a) .bytecount) w _ _ v paced clear);
+          paced =
+              subst (λ (x : Slaves). Paced x (channelOf c (M .after s a) .bytecount) (watchOn s w a .at) (watchOn s w a .given)) (sym slas)
+              (paced-on (slavesOf (channelOf c s)) (channelOf c s .tranconfig) (channelOf c (M .after s a) .bytecount) w _ _ v paced clear);
           clear = λ k q. clear k (omega (arith, later, q));
         };
         slas = slas;
@@ -324,10 +326,10 @@ module _ {A : Type 0} (M : Machine State A PartAnswer) (aim : A → Target) (f :
 
   -- ---- the moment of each D
   Moments : State → Watch → List A → Bool → Type 0
-  Moments s w x b = Momentary M aim c (channelOf c s .slatable) (channelOf c s .tranconfig) s w x
+  Moments s w x b = Momentary M aim c (slavesOf (channelOf c s)) (channelOf c s .tranconfig) s w x
 
   pub momentary : (l : List A) (s : State) (w : Watch) → Holding s w → runsOf (channelOf c s .head .walk .phase) ≡ true
-      → Momentary M aim c (channelOf c s .slatable) (channelOf c s .tranconfig) s w (frameOf M aim c s l)
+      → Momentary M aim c (slavesOf (channelOf c s)) (channelOf c s .tranconfig) s w (frameOf M aim c s l)
   unfolding Moments
   momentary = along Moments (λ s w b h r. tt) (λ s w a x b h o i. (o .moment, rw (o .slas, o .lengths) at i))
 
@@ -339,7 +341,7 @@ module _ {A : Type 0} (M : Machine State A PartAnswer) (aim : A → Target) (f :
 
   Ordered : ℕ → State → Watch → List A → Bool → Type 0
   Ordered k s w x b = (n : ℕ) → k < countOf (channelOf c s) → readsOf (slaveOf (channelOf c s) k) ≡ false → Tally k n s w
-      → Fetched (channelOf c s .tranconfig) (bufferOf c s) k n (sent (channelOf c s .slatable) (channelOf c s .tranconfig) k w (logOf M aim c s x)) (bytesOf (channelOf c (ends M s x)) k)
+      → Fetched (channelOf c s .tranconfig) (bufferOf c s) k n (sent (slavesOf (channelOf c s)) (channelOf c s .tranconfig) k w (logOf M aim c s x)) (bytesOf (channelOf c (ends M s x)) k)
 
   -- another transaction's count and length are as they were
   count-other : (k : ℕ) (s : State) (w : Watch) (a : A) → One s w a → (w .at ≡ k → ⊥) → bytesOf (channelOf c (M .after s a)) k ≡ bytesOf (channelOf c s) k
@@ -365,7 +367,7 @@ module _ {A : Type 0} (M : Machine State A PartAnswer) (aim : A → Target) (f :
       let g = gain-here (w .at) k (entry s a .action) q in
       let p = t .here q in
       let later = at-on (channelOf c s .tranconfig) w _ _ x in
-      let u : Paced (channelOf c s .slatable) (channelOf c (M .after s a) .bytecount) k (w .given + gain true (entry s a .action)) = rw q at (o .paced) in
+      let u : Paced (slavesOf (channelOf c s)) (channelOf c (M .after s a) .bytecount) k (w .given + gain true (entry s a .action)) = rw q at (o .paced) in
       let r = u d in
       let l = length-same k s w a o in
       let i : w .given ≤ lengthOf (channelOf c s) k = rw q at (h .given) in
@@ -406,15 +408,15 @@ module _ {A : Type 0} (M : Machine State A PartAnswer) (aim : A → Target) (f :
 
   pub ordered : (k : ℕ) (l : List A) (s : State) (w : Watch) → Holding s w → runsOf (channelOf c s .head .walk .phase) ≡ true
       → (n : ℕ) → k < countOf (channelOf c s) → readsOf (slaveOf (channelOf c s) k) ≡ false → Tally k n s w
-      → Fetched (channelOf c s .tranconfig) (bufferOf c s) k n (sent (channelOf c s .slatable) (channelOf c s .tranconfig) k w (logOf M aim c s (frameOf M aim c s l)))
+      → Fetched (channelOf c s .tranconfig) (bufferOf c s) k n (sent (slavesOf (channelOf c s)) (channelOf c s .tranconfig) k w (logOf M aim c s (frameOf M aim c s l)))
       (bytesOf (channelOf c (ends M s (frameOf M aim c s l))) k)
   unfolding Ordered
   ordered k =
       along (Ordered k)
       (λ s w b h r n q d t. none-sent k n s w h d t (order (w .at) k))
       (λ s w a x b h o i n q d t.
-      let v = moves (channelOf c s .slatable) (channelOf c s .tranconfig) (bufferOf c s) w (entry s a .action) (h .given) (o .moment) in
-      let y = i (n + gain (eqb (w .at) k) (entry s a .action)) (rw (o .lengths) q) (rw (o .slas) d) (tally-on k n s w a h o d t (order (w .at) k) v) in
-      data-more (channelOf c s .tranconfig) (bufferOf c s) k n _ (channelOf c s .slatable) w (eqb (w .at) k) (entry s a .action) _
+      let v = moves (slavesOf (channelOf c s)) (channelOf c s .tranconfig) (bufferOf c s) w (entry s a .action) (h .given) (o .moment) in
+      let y = i (n + gain (eqb (w .at) k) (entry s a .action)) (rw (o .lengths) q) (rw (ap (λ (x : Slaves). x .table) (o .slas)) d) (tally-on k n s w a h o d t (order (w .at) k) v) in
+      data-more (channelOf c s .tranconfig) (bufferOf c s) k n _ (slavesOf (channelOf c s)) w (eqb (w .at) k) (entry s a .action) _
       (λ e. let z = eqb-true (w .at) k e in (z, t .here z)) (o .moment)
       (fetched-kept _ _ _ k _ _ _ (λ j p. o .kept k j q d p) (rw (o .slas, o .lengths) at y)))

@@ -9,6 +9,7 @@ use lib.Dec.{eqb, ltb}
 use lib.ListN.{length}
 use Rattle.laws.specs.Pick.{if_then_else_}
 use Rattle.laws.specs.Cases.{pick-holds, both, past}
+use Rattle.rules.specs.declared.parts.Kind.{Kind}
 use Rattle.rules.specs.declared.state.Phase.{Phase}
 use Rattle.rules.specs.declared.state.Phase.the-variants.{Idle, Address, Sending, Receiving, Stopping, Waiting}
 use Rattle.rules.specs.declared.state.Walk.{Walk}
@@ -33,7 +34,7 @@ use Rattle.rules.specs.declared.wires.Edge.{Edge}
 use Rattle.sequence.specs.declared.wires.Ending.{Ending}
 use Rattle.sequence.specs.declared.wires.Ending.the-variants.{Fe, Error, Sd, Wait}
 use Rattle.rules.specs.declared.wires.Event.{Event}
-use Rattle.rules.specs.declared.wires.Event.the-variants.{Ninth, Byte, Tick, Stop, Sda, Scl, Ill}
+use Rattle.rules.specs.declared.wires.Event.the-variants.{Ninth, Byte, Tick, Stop, Sda, Scl, Ill, Sent}
 use Rattle.rules.specs.declared.wires.Level.the-variants.{Low, High}
 use Rattle.sequence.specs.declared.wires.Fault.{Fault}
 use Rattle.sequence.specs.declared.wires.Fault.the-variants.{Dae, Cle, Sse}
@@ -41,13 +42,13 @@ use Rattle.sequence.specs.declared.wires.Turn.{Turn}
 use Rattle.sequence.specs.declared.wires.Turn.the-variants.{Unawaited}
 use Rattle.sequence.specs.Walk.{endWalk, lateWalk}
 use Rattle.sequence.specs.Wires.{stopAsked, askedIn, askOf, beatOf, matchesOf, edgeBeat}
-use Rattle.sequence.specs.Laws.Meeting.{Meeting, meeting}
+use Rattle.sequence.specs.Laws.Meeting.{Meeting, ackOf, meeting}
 use Rattle.sequence.specs.Laws.Meeting.Meeting.{unawaited as unawaited′, ack-address as ack-address′, ack-sending as ack-sending′, receive as receive′}
 use Rattle.sequence.specs.Laws.Meeting.Meeting.{nack-address as nack-address′, nack-sending as nack-sending′, begin as begin′, late as late′, end as end′, sda as sda′, scl as scl′, ill as ill′}
 use Rattle.steps.specs.declared.map.Op.{Op}
 use Rattle.steps.specs.declared.map.Op.the-variants.{Write, Read, Wire}
 use Rattle.head.specs.State.{plain, refused}
-use Rattle.head.specs.Head.{framecntOf, femskOf, lateBy, faulted, frameEnded}
+use Rattle.head.specs.Head.{framecntOf, kindOf, femskOf, lateBy, faulted, frameEnded}
 use Rattle.head.specs.Access.{refusalOf}
 use Rattle.channel.specs.declared.state.Channel.{Channel}
 use Rattle.channel.specs.declared.state.Stepped.{Stepped}
@@ -56,15 +57,16 @@ use Rattle.channel.specs.Access.{readBy, readOf, asked, controlled, writtenBy, 
 use Rattle.channel.specs.Wires.{slaveOf, bytesOf, lengthOf, turned, beaten, triggered}
 use Rattle.channel.specs.Step.{writeAt, readAt, eventAt, servedBy}
 use Rattle.independent.specs.Laws.Keys.{no}
+use Rattle.frames.specs.Statement.{slavesOf}
 use Rattle.frames.specs.Wire.{Heard, Watch, costOf, faultOf, endsOf, dataHeard}
 use Rattle.frames.specs.Wire.Heard.{none, event}
 use Rattle.frames.specs.Deeds.{runsOf, heardOp, placeResets, opResets}
 use Rattle.frames.specs.Laws.Behind.{leftOf, Watching}
-use Rattle.frames.specs.Laws.Goes.{Answered, Goes, At, at-of, none-counted, ack-address-goes, nacked-goes, ack-sending-goes, received-goes}
+use Rattle.frames.specs.Laws.Goes.{acks, Answered, Goes, At, at-of, none-counted, ack-address-goes, nacked-goes, ack-sending-goes, received-goes}
 
 -- ---- nothing of the frame moves
 pub record Stays (c : Channel) (m : List ℕ) (d : Served) : Type 0 where
-  pub slas : d .stepped .channel .slatable ≡ c .slatable
+  pub slas : slavesOf (d .stepped .channel) ≡ slavesOf c
   pub lengths : d .stepped .channel .tranconfig ≡ c .tranconfig
   pub counted : d .stepped .channel .bytecount ≡ c .bytecount
   pub phase : d .stepped .channel .head .walk .phase ≡ c .head .walk .phase
@@ -72,7 +74,7 @@ pub record Stays (c : Channel) (m : List ℕ) (d : Served) : Type 0 where
   pub bytes : d .bytes ≡ m
 
 -- a step that changes the head alone, and not its phase
-head-stays : (c : Channel) (m : List ℕ) (r : Stepped) → r .channel .slatable ≡ c .slatable → r .channel .tranconfig ≡ c .tranconfig → r .channel .bytecount ≡ c .bytecount
+head-stays : (c : Channel) (m : List ℕ) (r : Stepped) → slavesOf (r .channel) ≡ slavesOf c → r .channel .tranconfig ≡ c .tranconfig → r .channel .bytecount ≡ c .bytecount
     → r .channel .head .walk .phase ≡ c .head .walk .phase → r .answer .action ≡ NoAction → Stays c m (leaving m r)
 head-stays c m r s l k f a = record { slas = s; lengths = l; counted = k; phase = f; action = a; bytes = refl }
 
@@ -130,7 +132,7 @@ pub record Under (c : Channel) (w : Watch) (p : Phase) : Type 0 where
   pub few : countOf c ≤ 64
   pub wide : length (c .bytecount) ≡ 64
   pub watching : Watching p (c .bytecount) w
-  pub frame : frameIn p (c .slatable) (c .tranconfig) (c .bytecount) ≡ true
+  pub frame : frameIn (kindOf (c .head)) p (c .slatable) (c .tranconfig) (c .bytecount) ≡ true
   pub runs : runsOf p ≡ true
 
 module _ (c : Channel) (m : List ℕ) (w : Watch) (p : Phase) (u : Under c w p) where
@@ -154,7 +156,7 @@ module _ (c : Channel) (m : List ℕ) (w : Watch) (p : Phase) (u : Under c w p) 
   unheard d s = stay none d s refl refl refl tt
 
   -- the frame is over: no event is left
-  over : (e : Event) (d : Channel) → d .slatable ≡ c .slatable → d .tranconfig ≡ c .tranconfig → d .bytecount ≡ c .bytecount
+  over : (e : Event) (d : Channel) → slavesOf d ≡ slavesOf c → d .tranconfig ≡ c .tranconfig → d .bytecount ≡ c .bytecount
       → runsOf (d .head .walk .phase) ≡ false → costOf (event e) + faultOf (event e) ≡ 1 → dataHeard w (event e) ≡ false → endsOf (event e) ≡ true
       → Goes p c m w (event e) (leaving m (on d (plain (d .head))))
   over e d s l k f z q b = record {
@@ -231,7 +233,7 @@ unfolding edgeBeat
 edge-holds Q p te tp edge q b = pick-holds Q te (λ _. pick-holds Q (matchesOf tp edge) (λ _. b) (λ _. q)) (λ _. q)
 
 module _ (c : Channel) (m : List ℕ) (runs : runsOf (c .head .walk .phase) ≡ true) where
-  asked-stays : (d : Channel) → d .slatable ≡ c .slatable → d .tranconfig ≡ c .tranconfig → d .bytecount ≡ c .bytecount
+  asked-stays : (d : Channel) → slavesOf d ≡ slavesOf c → d .tranconfig ≡ c .tranconfig → d .bytecount ≡ c .bytecount
       → d .head .walk .phase ≡ c .head .walk .phase → (a : Ask) → Mild a → Stays c m (leaving m (asked d a))
   unfolding asked
   asked-stays d s l k f Nothing h = head-stays c m _ s l k f refl
@@ -311,18 +313,18 @@ module _ (c : Channel) (m : List ℕ) (w : Watch) where
 
   address-at : (n : ℕ) → Under c w (Address n) → At c n × (bytesOf c n ≡ 0)
   unfolding frameIn countedIn
-  address-at n u = (at-of (Address n) c n (u .few) (u .frame), eqb-true _ _ (frame-counted (Address n) _ _ _ n (u .frame)))
+  address-at n u = (at-of (Address n) c n (u .few) (u .frame), eqb-true _ _ (frame-counted _ (Address n) _ _ _ n (u .frame)))
 
   sending-at : (n : ℕ) → Under c w (Sending n) → At c n × (bytesOf c n < lengthOf c n) × (readsOf (slaveOf c n) ≡ false)
   unfolding frameIn countedIn
   sending-at n u =
-      let b = past (readsOf (slaveOf c n)) _ (frame-counted (Sending n) _ _ _ n (u .frame)) in
+      let b = past (readsOf (slaveOf c n)) _ (frame-counted _ (Sending n) _ _ _ n (u .frame)) in
       (at-of (Sending n) c n (u .few) (u .frame), ltb-true _ _ (b .1), b .0)
 
   receiving-at : (n : ℕ) → Under c w (Receiving n) → At c n × (bytesOf c n < lengthOf c n) × (readsOf (slaveOf c n) ≡ true)
   unfolding frameIn countedIn
   receiving-at n u =
-      let b = both (readsOf (slaveOf c n)) _ (frame-counted (Receiving n) _ _ _ n (u .frame)) in
+      let b = both (readsOf (slaveOf c n)) _ (frame-counted _ (Receiving n) _ _ _ n (u .frame)) in
       (at-of (Receiving n) c n (u .few) (u .frame), ltb-true _ _ (b .1), b .0)
 
   inside : (n : ℕ) → length (c .bytecount) ≡ 64 → At c n → n < length (c .bytecount)
@@ -337,32 +339,32 @@ module _ (c : Channel) (m : List ℕ) (w : Watch) where
   not-awaited p u e = unheard c m w p u _ (head-stays c m _ refl refl refl refl refl)
 
   -- EACH EVENT IN A FRAME, by what it meets
-  met-goes : (p : Phase) (e : Event) (t : Turn) → Meeting p e t → Under c w p → Hears p e (turned c m t)
+  met-goes : (k : Kind) (p : Phase) (e : Event) (t : Turn) → Meeting k p e t → Under c w p → Hears p e (turned c m t)
   unfolding turned frameEnded
-  met-goes p e t unawaited′ u = not-awaited p u e
-  met-goes p e t (ack-address′ {n}) u = let a = address-at n u in done (Address n) (Ninth Low) _ (ack-address-goes c m n (a .0) w (a .1) (u .watching))
-  met-goes p e t (ack-sending′ {n}) u = let a = sending-at n u in done (Sending n) (Ninth Low) _ (ack-sending-goes c m n (a .0) w (inside n (u .wide) (a .0)) (a .1) (a .2) (u .watching))
-  met-goes p e t (receive′ {n} {b}) u =
+  met-goes k p e t unawaited′ u = not-awaited p u e
+  met-goes _ p e t (ack-address′ {k} {n}) u = let a = address-at n u in done (Address n) (ackOf k) _ (ack-address-goes c m n (a .0) w (ackOf k) (acks k) (a .1) (u .watching))
+  met-goes _ p e t (ack-sending′ {k} {n}) u = let a = sending-at n u in done (Sending n) (ackOf k) _ (ack-sending-goes c m n (a .0) w (inside n (u .wide) (a .0)) (a .1) (ackOf k) (acks k) (a .2) (u .watching))
+  met-goes k p e t (receive′ {n} {b}) u =
       let a = receiving-at n u in
       done (Receiving n) (Byte b) _ (received-goes c m n (a .0) w (inside n (u .wide) (a .0)) (a .1) b (u .at) (a .2) (u .watching))
-  met-goes p e t (nack-address′ {n}) u =
+  met-goes k p e t (nack-address′ {n}) u =
       let a = address-at n u in
       let x = a .0 .below in
       let y = a .0 .room in
       let z = a .0 .next in
       done (Address n) (Ninth High) _ (nacked-goes c m n (a .0) w (Address n) addressRefused (u .watching .0) (omega (arith, x, y, z)))
-  met-goes p e t (nack-sending′ {n}) u =
+  met-goes k p e t (nack-sending′ {n}) u =
       let a = sending-at n u in
       let x = a .1 in
       let y = a .0 .room in
       let z = a .0 .next in
       done (Sending n) (Ninth High) _ (nacked-goes c m n (a .0) w (Sending n) dataRefused (u .watching .0) (omega (arith, x, y, z)))
-  met-goes p e t begin′ u = no (u .runs)
-  met-goes p e t (late′ q) u = done p Tick _ (stay c m w p u (event Tick) _ (late-stays c m (rw (u .at) (u .runs))) refl refl refl refl)
-  met-goes p e t end′ u = done Stopping Stop _ (over c m w Stopping u Stop (withHead c (frameEnded (c .head))) refl refl refl (ended-runs _) refl refl refl)
-  met-goes p e t (sda′ {n}) u = faulty (Address n) u Sda Dae refl refl refl
-  met-goes p e t (scl′ q) u = faulty p u Scl Cle refl refl refl
-  met-goes p e t ill′ u = faulty p u Ill Sse refl refl refl
+  met-goes k p e t begin′ u = no (u .runs)
+  met-goes k p e t (late′ q) u = done p Tick _ (stay c m w p u (event Tick) _ (late-stays c m (rw (u .at) (u .runs))) refl refl refl refl)
+  met-goes k p e t end′ u = done Stopping Stop _ (over c m w Stopping u Stop (withHead c (frameEnded (c .head))) refl refl refl (ended-runs _) refl refl refl)
+  met-goes k p e t (sda′ {n}) u = faulty (Address n) u Sda Dae refl refl refl
+  met-goes k p e t (scl′ q) u = faulty p u Scl Cle refl refl refl
+  met-goes k p e t ill′ u = faulty p u Ill Sse refl refl refl
 
 -- ---- a step of the channel that does not reset it
 module _ (c : Channel) (m : List ℕ) (number : ℕ) (w : Watch) (u : Under c w (c .head .walk .phase)) where
@@ -377,7 +379,7 @@ module _ (c : Channel) (m : List ℕ) (number : ℕ) (w : Watch) (u : Under c w 
   event-goes e =
       pick-holds (λ d. Hears c m w (c .head .walk .phase) e d) (ltb 2 number)
       (λ _. stays-goes (leaving m (on c (refused (c .head) nowhere))) (head-stays c m _ refl refl refl refl refl))
-      (λ _. met-goes c m w (c .head .walk .phase) e _ (meeting _ (c .head .regs .te) (framecntOf (c .head)) e) u)
+      (λ _. met-goes c m w _ (c .head .walk .phase) e _ (meeting (kindOf (c .head)) _ (c .head .regs .te) (framecntOf (c .head)) e) u)
 
   pub own-goes : (op : Op) → opResets c number op ≡ false → GoesOn (heardOp op (servedBy c m number op .stepped .answer .number)) (servedBy c m number op)
   unfolding servedBy heardOp

@@ -71,7 +71,7 @@ abbrev pub feltAll : Channel → List ℕ → Wide → Served
 feltAll c m (CtrlWrite reg v) = unmoved c m
 feltAll c m (CtrlRead reg) = unmoved c m
 feltAll c m (AllTrigger edge) = leaving m (triggered c edge)
-feltAll c m AllReset = unmoved c m
+feltAll c m (AllReset d) = unmoved c m
 feltAll c m Beyond = unmoved c m
 
 unfoldable pub feltBy : Channel → List ℕ → ℕ → Target → Served
@@ -179,7 +179,7 @@ module _ (p : Part) (m : List ℕ) (c : ℕ) (whole : Whole p m) (low : c < 3) (
   all (CtrlWrite reg v) e = put reg v e
   all (CtrlRead reg) e = read reg
   all (AllTrigger x) e = edge x
-  all AllReset e = no (sym e)
+  all (AllReset d) e = no (sym e)
   all Beyond e = left _ refl
 
   -- a step served, that does not reset channel c
@@ -237,7 +237,7 @@ module _ (p : Part) (c : ℕ) where
   resets-left (All (CtrlWrite reg v)) = refl
   resets-left (All (CtrlRead reg)) = refl
   resets-left (All (AllTrigger x)) = refl
-  resets-left (All AllReset) = refl
+  resets-left (All (AllReset z)) = refl
   resets-left (All Beyond) = refl
 
   AsksLeft : Target → Type 0
@@ -249,7 +249,7 @@ module _ (p : Part) (c : ℕ) where
   asks-left (All (CtrlWrite reg v)) = refl
   asks-left (All (CtrlRead reg)) = refl
   asks-left (All (AllTrigger x)) = refl
-  asks-left (All AllReset) = refl
+  asks-left (All (AllReset z)) = refl
   asks-left (All Beyond) = refl
 
 -- A STEP THAT DOES NOT RESET CHANNEL c is what the channel feels
@@ -284,7 +284,7 @@ module _ (p : Part) (m : List ℕ) (c : ℕ) (low : c < 3) where
     target-goes (All (CtrlWrite reg v)) e = other-goes (chan p c) m c w u
     target-goes (All (CtrlRead reg)) e = other-goes (chan p c) m c w u
     target-goes (All (AllTrigger x)) e = edge-goes (chan p c) m c w u x
-    target-goes (All AllReset) e = no (sym e)
+    target-goes (All (AllReset z)) e = no (sym e)
     target-goes (All Beyond) e = other-goes (chan p c) m c w u
 
   module _ (calm : runsOf (chan p c .head .walk .phase) ≡ false) where
@@ -298,7 +298,7 @@ module _ (p : Part) (m : List ℕ) (c : ℕ) (low : c < 3) where
     target-outside (All (CtrlWrite reg v)) e = same-outside (chan p c) m calm
     target-outside (All (CtrlRead reg)) e = same-outside (chan p c) m calm
     target-outside (All (AllTrigger x)) e = edge-outside (chan p c) m calm x
-    target-outside (All AllReset) e = no (sym e)
+    target-outside (All (AllReset z)) e = no (sym e)
     target-outside (All Beyond) e = same-outside (chan p c) m calm
 
 -- ---- the key is nothing to a frame

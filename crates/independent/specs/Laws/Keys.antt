@@ -10,6 +10,7 @@ use lib.ListN.{length, getD, set}
 use lib.Seq.{getD-set-other}
 use Rattle.laws.specs.Pick.{if_then_else_}
 use Rattle.laws.specs.Cases.{pick-holds, false-not-true}
+use Rattle.rules.specs.declared.parts.Device.{Device}
 use Rattle.rules.specs.Access.{keyAfter, resetsOf}
 use Rattle.rules.specs.declared.wires.Edge.{Edge}
 use Rattle.steps.specs.declared.map.Ctrl.{Ctrl}
@@ -28,7 +29,7 @@ use Rattle.channel.specs.declared.state.Channel.{Channel}
 use Rattle.part.specs.declared.state.Part.{Part}
 use Rattle.part.specs.declared.state.PartStepped.{PartStepped}
 use Rattle.part.specs.Registers.{ctrlRead, ctrlWritten, ctrlPut}
-use Rattle.part.specs.State.{blank, chan, window, withKey, freshPart, forgotten}
+use Rattle.part.specs.State.{blank, chan, window, withKey, freshPart, deviceOf, forgotten}
 use Rattle.part.specs.Step.{edgeChannel, triggerStep, oneServed, oneStep, allServed, targetServed, forgetting, partServed, partStep, accepts}
 use Rattle.part.specs.Laws.Keys.{other-left}
 use Rattle.works.specs.Laws.Keys.{quiet-key, edge-key}
@@ -58,14 +59,14 @@ only-of c p key keys x e = go (eqb x c) refl (eqb x 3) refl
     go false h false i = no (sym (keys x (λ q. eqb-false x c h (sym q)) i) ∙ rw i at e)
 
 -- ---- a reset
-fresh-key : (x : ℕ) → chan freshPart x .head .key ≡ false
-fresh-key zero = refl
-fresh-key (suc zero) = refl
-fresh-key (suc (suc zero)) = refl
-fresh-key (suc (suc (suc x))) = refl
+fresh-key : (d : Device) (x : ℕ) → chan (freshPart d) x .head .key ≡ false
+fresh-key d zero = refl
+fresh-key d (suc zero) = refl
+fresh-key d (suc (suc zero)) = refl
+fresh-key d (suc (suc (suc x))) = refl
 
-fresh-only : (c : ℕ) → OnlyKey c freshPart
-fresh-only c = only-of c freshPart (λ _. refl) (λ x _ _. fresh-key x)
+fresh-only : (d : Device) (c : ℕ) → OnlyKey c (freshPart d)
+fresh-only d c = only-of c (freshPart d) (λ _. refl) (λ x _ _. fresh-key d x)
 
 -- ---- a write
 Only3 : PartStepped → Type 0
@@ -97,7 +98,7 @@ module _ (p : Part) (m : List ℕ) where
   put-only : (reg : Ctrl) (v : ℕ) → Only3 (ctrlPut (forgotten p 3) reg v)
   unfolding Only3 ctrlPut
   put-only reg v =
-      pick-holds Only3 (resetsOf (ctrlpresetOf reg) v (forgotten p 3 .key)) (λ _. fresh-only 3) (λ _. ctrl-only (keyAfter (ctrlpresetOf reg) v) reg v)
+      pick-holds Only3 (resetsOf (ctrlpresetOf reg) v (forgotten p 3 .key)) (λ _. fresh-only (deviceOf (forgotten p 3)) 3) (λ _. ctrl-only (keyAfter (ctrlpresetOf reg) v) reg v)
 
 -- ---- any other step: each key is as it was
 SameKeys : Part → Part → Type 0
@@ -151,7 +152,7 @@ module _ (p : Part) (m : List ℕ) where
   served-one (All (CtrlWrite reg v)) low h = only-one 3 (ctrlPut (forgotten p 3) reg v .part) (put-only p m reg v)
   served-one (All (CtrlRead reg)) low h = same-one p (ctrlRead p reg .part) (read-same reg) h
   served-one (All (AllTrigger edge)) low h = same-one p (triggerStep p edge .part) (edge-same edge) h
-  served-one (All AllReset) low h = only-one 3 freshPart (fresh-only 3)
+  served-one (All (AllReset d)) low h = only-one 3 (freshPart d) (fresh-only d 3)
   served-one (All Beyond) low h = h
 
   OneLeft : PartStepped → Type 0
@@ -162,5 +163,5 @@ module _ (p : Part) (m : List ℕ) where
   unfolding OneLeft partStep
   step-one-key s h = pick-holds OneLeft (accepts p (length m)) (λ _. served-one (targetOf s) (in-part s) h) (λ _. h)
 
-pub fresh-one-key : AtMostOneKey freshPart
-fresh-one-key = only-one 3 freshPart (fresh-only 3)
+pub fresh-one-key : (d : Device) → AtMostOneKey (freshPart d)
+fresh-one-key d = only-one 3 (freshPart d) (fresh-only d 3)

@@ -68,8 +68,11 @@ use Rattle.channel.specs.Wires.{
   beaten,
   triggered,
 }
-use Rattle.part.specs.State.{keyless}
+use Rattle.part.specs.declared.state.Part.{Part}
+use Rattle.part.specs.State.{chan, keyless}
+use Rattle.part.specs.Laws.Keys.{own-left}
 use Rattle.works.specs.Keys.{presetAt, writesPreset}
+use Rattle.works.specs.Work.{leftFor}
 
 -- the channel with this key, and what a step gives of it
 abbrev pub rekeyed : Bool → Channel → Channel
@@ -276,3 +279,9 @@ unfolding servedBy
 served-keyless c m number (Write a v) q = write-keyless c m (placeOf number a) v q
 served-keyless c m number (Read a) q = read-at-keyed false c m (placeOf number a)
 served-keyless c m number (Wire x) q = event-keyed false c m number x
+
+-- ---- to a work of its own a channel's key is left
+pub left-own : (p : Part) (c : ℕ) (writes : Bool) → chan (leftFor p c writes) c ≡ chan p c
+unfolding if_then_else_
+left-own p c true = own-left p c
+left-own p c false = refl

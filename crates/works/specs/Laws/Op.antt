@@ -11,14 +11,14 @@ use Rattle.channel.specs.declared.state.Channel.{Channel}
 use Rattle.channel.specs.State.{Served}
 use Rattle.channel.specs.Step.{servedBy}
 use Rattle.channel.specs.Laws.Kept.{serves-in-range, served-length}
+use Rattle.channel.specs.Laws.Straps.{served-keeps}
 use Rattle.part.specs.declared.state.Part.{Part}
 use Rattle.part.specs.State.{chan, window}
 use Rattle.part.specs.Step.{oneStep, oneBytes, forgetting}
-use Rattle.part.specs.Laws.Keys.{own-left}
 use Rattle.works.specs.Keys.{writesPreset}
 use Rattle.works.specs.State.{State}
 use Rattle.works.specs.Work.{Own, Given, Work, leftFor, workAfter, workGives, replyBy}
-use Rattle.works.specs.Laws.Keys.{served-keyless}
+use Rattle.works.specs.Laws.Keys.{left-own, served-keyless}
 
 -- what is made of a channel's own, and what is given
 abbrev ownOf : Served → Own
@@ -37,15 +37,10 @@ opWork c op calm = record {
     ranged = serves-in-range (o .channel) (o .bytes) c op h;
     whole = rw (served-length (o .channel) (o .bytes) c op h) (h .whole);
   };
+  stays = λ o. served-keeps (o .channel) (o .bytes) c op .straps;
   unkeys = λ o. ap ownOf (served-keyless (o .channel) (o .bytes) c op calm);
   blind = λ o. ap givenBy (served-keyless (o .channel) (o .bytes) c op calm);
 }
-
--- its own key is left to it
-left-own : (p : Part) (c : ℕ) (writes : Bool) → chan (leftFor p c writes) c ≡ chan p c
-unfolding if_then_else_
-left-own p c true = own-left p c
-left-own p c false = refl
 
 -- it does and answers what the part's step of that channel does
 module _ (s : State) (c : ℕ) (op : Op) (calm : writesPreset c op ≡ false) where

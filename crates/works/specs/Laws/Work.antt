@@ -7,7 +7,6 @@ use lib.Dec.{eqb}
 use lib.ListN.{length, getD, set}
 use lib.Seq.{set-comm, set-set, getD-set-other}
 use Rattle.laws.specs.Pick.{if_then_else_}
-use Rattle.laws.specs.Cases.{with, both}
 use Rattle.rules.specs.Numbers.{bufferSize}
 use Rattle.interrupt.specs.Interrupt.{beAfter}
 use Rattle.interrupt.specs.Laws.Interrupt.{be-swap}
@@ -15,13 +14,14 @@ use Rattle.channel.specs.declared.state.Channel.{Channel}
 use Rattle.heads.specs.Heads.{allBut}
 use Rattle.part.specs.declared.state.Part.{Part}
 use Rattle.part.specs.State.{blank, chan, putWindow, keyless}
-use Rattle.part.specs.Step.{oneAfter, partIn}
+use Rattle.part.specs.Step.{oneAfter}
 use Rattle.part.specs.Laws.Memory as memory
 use Rattle.part.specs.Laws.Range.{accepts-whole, whole-accepts}
-use Rattle.part.specs.Laws.Kept.{set-in, chan-accepted, forgotten-whole}
+use Rattle.part.specs.Laws.Kept.{put-in-range, chan-accepted, forgotten-whole}
 use Rattle.part.specs.Laws.Keys.{other-left}
 use Rattle.part.specs.Facts.{Whole}
 use Rattle.works.specs.State.{State, Accepted}
+use Rattle.works.specs.Laws.Keys.{left-own}
 use Rattle.works.specs.Work.{Own, Sound, Work, leftFor, ownOf, workAfter, workGives}
 
 -- ---- channels where every key but one is forgotten, and what is put among them
@@ -161,14 +161,14 @@ module _ (s : State) (g : Accepted s) where
 
   -- AN ACCEPTED STATE STAYS ONE
   pub work-kept : (c : ℕ) (w : Work) → c < 3 → Accepted (workAfter s c w)
-  unfolding workAfter partIn
+  unfolding workAfter
   work-kept c w h =
       let o = sound c w h in
-      let p = both _ _ (left-in (s .part) (s .memory) c (w .writes) good .ranged) in
       let t = workAfter s c w in
+      let chosen = w .stays (ownOf s c) ∙ ap (λ (x : Channel). x .head .straps) (sym (left-own (s .part) c (w .writes))) in
       whole-accepts (t .part) (t .memory)
       (record {
-        ranged = with _ _ (set-in (leftFor (s .part) c (w .writes) .channels) c _ (p .0) (o .ranged)) (p .1);
+        ranged = put-in-range (leftFor (s .part) c (w .writes)) c _ _ (left-in (s .part) (s .memory) c (w .writes) good .ranged) (o .ranged) chosen refl;
         whole = memory.length-put c (w .after (ownOf s c) .bytes) (s .memory) (o .whole) (fits c h) ∙ good .whole;
       })
 

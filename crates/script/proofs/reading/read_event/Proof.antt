@@ -23,4 +23,8 @@ read-event-spec =
     (λ c. search needs)
     (λ c. search cases depth 12)
     (λ c. search needs)
+    (λ c. search needs)
+    (λ c. search needs)
+    (λ c. search cases depth 12)
+    (λ c. search needs)
     (λ c. search cases depth 12))

@@ -23,4 +23,7 @@ read-line-spec =
     (λ c. search needs)
     (λ c. search cases depth 12)
     (λ c. search needs)
+    (λ c. search needs)
+    (λ c. search cases depth 12)
+    (λ c. search needs)
     (λ c. search cases depth 12))
