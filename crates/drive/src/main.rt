@@ -9,7 +9,9 @@ use rules::Action;
 use rules::BUFFER;
 use rules::Decoded;
 use rules::Event;
+use rules::Kind;
 use rules::Level;
+use rules::Straps;
 use steps::Op;
 
 // ---- what is printed
@@ -44,6 +46,7 @@ fn say_event(e: Event) {
         Event::Sda => say(b"SDA"),
         Event::Scl => say(b"SCL"),
         Event::Ill => say(b"ILL"),
+        Event::Sent => say(b"SENT"),
     }
 }
 
@@ -237,7 +240,7 @@ fn step(c: Channel, mem: &mut [u8], line: u32, op: Op) -> Channel {
 
 fn fresh(mem: &mut [u8; BUFFER]) -> Channel {
     *mem = [0u8; BUFFER];
-    Channel::new()
+    Channel::new(Straps { kind: Kind::Fm })
 }
 
 fn no_event(c: Channel) -> Channel {
@@ -268,7 +271,7 @@ fn row(c: Channel, mem: &mut [u8; BUFFER], r: u32) -> Channel {
 
 fn main() {
     let mut mem = [0u8; BUFFER];
-    let mut c = Channel::new();
+    let mut c = fresh(&mut mem);
     let mut i: usize = 0;
     while i < ROWS {
         c = row(c, &mut mem, SHEET[i]);

@@ -3,10 +3,11 @@ use Prim.Native.Nat.{ℕ}
 use mathlib.Core.Bool.{Bool}
 use mathlib.Core.List.{List}
 use mathlib.Core.Path.{_≡_}
+use Rattle.rules.specs.declared.parts.Kind.{Kind}
 use Rattle.rules.specs.declared.state.Phase.{Phase}
 use Rattle.rules.specs.declared.state.Ptrs.{Ptrs}
 use Rattle.rules.specs.declared.state.Walk.{Walk}
-use Rattle.bounds.specs.Range.{pointersIn, registersIn, walkIn, frameIn}
+use Rattle.bounds.specs.Range.{pointersIn, registersIn, walkIn, frameIn, kindsIn}
 use Rattle.promises.specs.Promise.{Once, no-second}
 
 pub pointers-in-once : (p : Ptrs) → Once Bool (λ r. r ≡ pointersIn p)
@@ -18,5 +19,8 @@ registers-in-once count transel intmsk = no-second (λ r h. h)
 pub walk-in-once : (w : Walk) (te : Bool) (framecnt : ℕ) → Once Bool (λ r. r ≡ walkIn w te framecnt)
 walk-in-once w te framecnt = no-second (λ r h. h)
 
-pub frame-in-once : (p : Phase) (sla lens counts : List ℕ) → Once Bool (λ r. r ≡ frameIn p sla lens counts)
-frame-in-once p sla lens counts = no-second (λ r h. h)
+pub frame-in-once : (kind : Kind) (p : Phase) (sla lens counts : List ℕ) → Once Bool (λ r. r ≡ frameIn kind p sla lens counts)
+frame-in-once kind p sla lens counts = no-second (λ r h. h)
+
+pub kinds-in-once : (first second third : Kind) → Once Bool (λ r. r ≡ kindsIn first second third)
+kinds-in-once first second third = no-second (λ r h. h)

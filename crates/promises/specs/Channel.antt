@@ -3,6 +3,7 @@ use Prim.Native.Nat.{ℕ}
 use mathlib.Core.Bool.{Bool}
 use mathlib.Core.List.{List}
 use mathlib.Core.Path.{_≡_}
+use Rattle.rules.specs.declared.parts.Straps.{Straps}
 use Rattle.rules.specs.declared.wires.Edge.{Edge}
 use Rattle.steps.specs.declared.map.Op.{Op}
 use Rattle.head.specs.declared.state.Head.{Head}
@@ -21,8 +22,8 @@ pub in-range-once : (self : Channel) → Once Bool (λ r. r ≡ inRange self)
 in-range-once self = no-second (λ r h. h)
 
 -- ---- state.rt
-pub new-once : Once Channel (λ r. r ≡ fresh)
-new-once = no-second (λ r h. h)
+pub new-once : (straps : Straps) → Once Channel (λ r. r ≡ fresh straps)
+new-once straps = no-second (λ r h. h)
 
 -- ---- step.rt
 -- what is told of the whole channel tells each part of it: the head, with the answer, and each table

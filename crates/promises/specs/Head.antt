@@ -4,6 +4,8 @@ use mathlib.Core.Bool.{Bool}
 use mathlib.Core.List.{List}
 use mathlib.Core.Path.{_≡_}
 use lib.ListN.{getD, set}
+use Rattle.rules.specs.declared.parts.Kind.{Kind}
+use Rattle.rules.specs.declared.parts.Straps.{Straps}
 use Rattle.rules.specs.declared.registers.Command.{Command}
 use Rattle.rules.specs.declared.registers.Register.{Register}
 use Rattle.rules.specs.declared.state.Phase.{Phase}
@@ -17,7 +19,7 @@ use Rattle.sequence.specs.Walk.{noFlags}
 use Rattle.head.specs.declared.state.Head.{Head}
 use Rattle.head.specs.declared.state.Headed.{Headed}
 use Rattle.head.specs.State.{freshHead, refused, plain, replied, acted, withFlags, withKey, withSettings}
-use Rattle.head.specs.Head.{haltOf, turnAt, inPhase, idled, stopped, clocked, noted, failed, lateBy, faulted, endedBy, frameEnded}
+use Rattle.head.specs.Head.{kindOf, haltOf, turnAt, inPhase, idled, stopped, clocked, noted, failed, lateBy, faulted, endedBy, frameEnded}
 use Rattle.head.specs.Head.{waits, stoTaken, seqTaken, slaNext, confNext, countNext, dataNext, maskTo}
 use Rattle.head.specs.Access.{settingOf, settingSet, readRefusal, controlOf, dataPlace, moded, pointed, refusalOf, selected, offset}
 use Rattle.head.specs.Range.{headIn}
@@ -98,8 +100,8 @@ pub in-range-once : (self : Head) (count : ℕ) → Once Bool (λ r. r ≡ headI
 in-range-once self count = no-second (λ r h. h)
 
 -- ---- state.rt
-pub new-once : Once Head (λ r. r ≡ freshHead)
-new-once = no-second (λ r h. h)
+pub new-once : (straps : Straps) → Once Head (λ r. r ≡ freshHead straps)
+new-once straps = no-second (λ r h. h)
 
 pub answer-once : (self : Head) (number : ℕ) → Once Headed (λ r. r ≡ refused self number)
 answer-once self number = no-second (λ r h. h)
@@ -125,6 +127,9 @@ to-idle-once self = no-second (λ r h. h)
 
 pub halts-once : (self : Head) → Once Bool (λ r. r ≡ haltOf self)
 halts-once self = no-second (λ r h. h)
+
+pub kind-once : (self : Head) → Once Kind (λ r. r ≡ kindOf self)
+kind-once self = no-second (λ r h. h)
 
 pub stop-once : (self : Head) (a : Action) → Once Headed (λ r. r ≡ stopped self a)
 stop-once self a = no-second (λ r h. h)

@@ -2,22 +2,27 @@
 use Prim.Native.Nat.{ℕ}
 use mathlib.Core.Bool.{Bool}
 use mathlib.Core.Path.{_≡_}
+use Rattle.rules.specs.declared.parts.Device.{Device}
 use Rattle.rules.specs.Registers.{activeOf}
 use Rattle.interrupt.specs.Interrupt.{pendingOf}
 use Rattle.steps.specs.declared.map.Target.{Target}
 use Rattle.head.specs.declared.state.Headed.{Headed}
+use Rattle.head.specs.Head.{kindOf}
 use Rattle.heads.specs.declared.Common.{Common}
 use Rattle.heads.specs.declared.Heads.{Heads}
 use Rattle.heads.specs.declared.HeadsStepped.{HeadsStepped}
 use Rattle.heads.specs.declared.OneStepped.{OneStepped}
-use Rattle.heads.specs.Heads.{headAt, unarmedOf, keyedOf, headsLeft, oneTaken, oneStored, edgesStored}
+use Rattle.heads.specs.Heads.{headAt, deviceAt, unarmedOf, keyedOf, headsLeft, oneTaken, oneStored, edgesStored}
 use Rattle.promises.specs.Promise.{Once, no-second}
 
 pub one-told-once : (k : Common) (c : ℕ) (r : Headed) → Once OneStepped (λ s. s ≡ oneTaken k c r)
 one-told-once k c r = no-second (λ s h. h)
 
-pub pending-at-once : (self : Heads) (c : ℕ) → Once Bool (λ r. r ≡ pendingOf (headAt self c .flags) (headAt self c .regs .intmsk))
+pub pending-at-once : (self : Heads) (c : ℕ) → Once Bool (λ r. r ≡ pendingOf (kindOf (headAt self c)) (headAt self c .flags) (headAt self c .regs .intmsk))
 pending-at-once self c = no-second (λ r h. h)
+
+pub device-once : (self : Heads) → Once Device (λ r. r ≡ deviceAt self)
+device-once self = no-second (λ r h. h)
 
 pub active-at-once : (self : Heads) (c : ℕ) → Once Bool (λ r. r ≡ activeOf (headAt self c .walk .phase))
 active-at-once self c = no-second (λ r h. h)

@@ -3,6 +3,7 @@ use Prim.Native.Nat.{ℕ}
 use mathlib.Core.Bool.{Bool}
 use mathlib.Core.List.{List, []}
 use mathlib.Core.Path.{_≡_}
+use Rattle.rules.specs.declared.parts.Device.{Device}
 use Rattle.steps.specs.declared.map.Op.{Op}
 use Rattle.steps.specs.declared.map.Step.{Step}
 use Rattle.steps.specs.declared.map.Wide.{Wide}
@@ -59,8 +60,8 @@ one-once h k sla lens status counts mem c op =
     (h .given i, t .sla, t .lens, t .status, t .counts, h .memory i))
 
 -- ---- state.rt
-pub new-once : Once Part (λ r. r ≡ freshPart)
-new-once = no-second (λ r h. h)
+pub new-once : (d : Device) → Once Part (λ r. r ≡ freshPart d)
+new-once d = no-second (λ r h. h)
 
 -- ---- step.rt
 pub in-range-once : (self : Part) → Once Bool (λ r. r ≡ partIn self)

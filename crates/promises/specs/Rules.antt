@@ -4,6 +4,8 @@ use mathlib.Core.Bool.{Bool}
 use mathlib.Core.List.{List}
 use mathlib.Core.Path.{_≡_}
 use lib.ListN.{length, replicate}
+use Rattle.rules.specs.declared.parts.Device.{Device}
+use Rattle.rules.specs.declared.parts.Kind.{Kind}
 use Rattle.rules.specs.declared.registers.Command.{Command}
 use Rattle.rules.specs.declared.registers.Place.{Place}
 use Rattle.rules.specs.declared.registers.Register.{Register}
@@ -16,6 +18,7 @@ use Rattle.rules.specs.declared.wires.Action.{Action}
 use Rattle.rules.specs.Access.{busyRefusal, pastRefusal, placeRefusal, slaRefusal, confRefusal, spotOf, spotRefusal, dataRefusal, selRefusal}
 use Rattle.rules.specs.Access.{keptIf, rewound, pointedAt, overrunOf, presetOf, keyAfter, resetsOf}
 use Rattle.rules.specs.Facts.{InBuffer, KnownPlace}
+use Rattle.rules.specs.Parts.{isFm, otherKind, deviceBy, deviceId}
 use Rattle.rules.specs.Registers.{placeOf, activeOf, bitOf, commandOf, weigh, controlValue, chstatusValue, maskKept}
 use Rattle.rules.specs.Tables.{startOf, fitting, readsOf, skippedOf, firstSent, marked}
 use Rattle.rules.specs.Tags.{tag, actionTag, eventOf}
@@ -70,6 +73,19 @@ key-after-once preset v = no-second (λ r h. h)
 pub resets-once : (preset : Bool) (v : ℕ) (key : Bool) → Once Bool (λ r. r ≡ resetsOf preset v key)
 resets-once preset v key = no-second (λ r h. h)
 
+-- ---- parts.rt
+pub is-fm-once : (k : Kind) → Once Bool (λ r. r ≡ isFm k)
+is-fm-once k = no-second (λ r h. h)
+
+pub other-kind-once : (d : Device) → Once Kind (λ r. r ≡ otherKind d)
+other-kind-once d = no-second (λ r h. h)
+
+pub device-by-once : (k : Kind) → Once Device (λ r. r ≡ deviceBy k)
+device-by-once k = no-second (λ r h. h)
+
+pub device-id-once : (d : Device) → Once ℕ (λ r. r ≡ deviceId d)
+device-id-once d = no-second (λ r h. h)
+
 -- ---- registers.rt
 pub place-of-once : (c a : ℕ) → Once Place (λ r. (r ≡ placeOf c a) × KnownPlace r)
 place-of-once c a = no-second (λ r h. h .0)
@@ -108,11 +124,11 @@ fits-once lens = no-second (λ r h. h)
 pub reads-once : (sla : ℕ) → Once Bool (λ r. r ≡ readsOf sla)
 reads-once sla = no-second (λ r h. h)
 
-pub skipped-once : (sla len : ℕ) → Once Bool (λ r. r ≡ skippedOf sla len)
-skipped-once sla len = no-second (λ r h. h)
+pub skipped-once : (kind : Kind) (sla len : ℕ) → Once Bool (λ r. r ≡ skippedOf kind sla len)
+skipped-once kind sla len = no-second (λ r h. h)
 
-pub first-sent-once : (sla lens : List ℕ) (from count : ℕ) → Once ℕ (λ r. (r ≡ firstSent sla lens from count) × (from ≤ r) × (r ≤ count))
-first-sent-once sla lens from count = no-second (λ r h. h .0)
+pub first-sent-once : (kind : Kind) (sla lens : List ℕ) (from count : ℕ) → Once ℕ (λ r. (r ≡ firstSent kind sla lens from count) × (from ≤ r) × (r ≤ count))
+first-sent-once kind sla lens from count = no-second (λ r h. h .0)
 
 pub mark-once : (status : List ℕ) (from to : ℕ) → Once (List ℕ) (λ status′. status′ ≡ marked status from to)
 mark-once status from to = no-second (λ r h. h)

@@ -4,6 +4,7 @@ use mathlib.Core.Bool.{Bool}
 use mathlib.Core.List.{List}
 use mathlib.Core.Path.{_≡_}
 use lib.ListN.{getD, set}
+use Rattle.rules.specs.declared.parts.Kind.{Kind}
 use Rattle.rules.specs.Tables.{startOf}
 use Rattle.rules.specs.declared.registers.Command.{Command}
 use Rattle.rules.specs.declared.state.Flags.{Flags}
@@ -67,8 +68,8 @@ pub end-walk-once : (e : Ending) → Once Walk (λ r. r ≡ endWalk e)
 end-walk-once e = no-second (λ r h. h)
 
 -- ---- wires.rt
-pub turn-of-once : (p : Phase) (te : Bool) (framecnt : ℕ) (e : Event) → Once Turn (λ r. r ≡ turnOf p te framecnt e)
-turn-of-once p te framecnt e = no-second (λ r h. h)
+pub turn-of-once : (kind : Kind) (p : Phase) (te : Bool) (framecnt : ℕ) (e : Event) → Once Turn (λ r. r ≡ turnOf kind p te framecnt e)
+turn-of-once kind p te framecnt e = no-second (λ r h. h)
 
 pub edge-beat-once : (p : Phase) (te tp : Bool) (edge : Edge) → Once Beat (λ r. r ≡ edgeBeat p te tp edge)
 edge-beat-once p te tp edge = no-second (λ r h. h)
@@ -76,8 +77,8 @@ edge-beat-once p te tp edge = no-second (λ r h. h)
 pub halted-once : (fe sto : Bool) → Once Bool (λ r. r ≡ haltedOf fe sto)
 halted-once fe sto = no-second (λ r h. h)
 
-pub reach-once : (halt : Bool) (n : ℕ) (sla lens : List ℕ) → Once ℕ (λ r. (r ≡ reachOf halt n sla lens) × (n + 1 ≤ r) × (r ≤ 64))
-reach-once halt n sla lens = no-second (λ r h. h .0)
+pub reach-once : (kind : Kind) (halt : Bool) (n : ℕ) (sla lens : List ℕ) → Once ℕ (λ r. (r ≡ reachOf kind halt n sla lens) × (n + 1 ≤ r) × (r ≤ 64))
+reach-once kind halt n sla lens = no-second (λ r h. h .0)
 
 pub next-move-once : (halt : Bool) (to count : ℕ) → Once Move (λ r. (r ≡ moveOf halt to count) × Exists r)
 next-move-once halt to count = no-second (λ r h. h .0)

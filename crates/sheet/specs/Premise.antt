@@ -13,6 +13,7 @@ use Rattle.part.specs.State.{chan}
 use Rattle.mixes.specs.Mix.{Mix, ends}
 use Rattle.mixes.specs.Mix.Mix.{done, first, second}
 use Rattle.works.specs.State.{State}
+use Rattle.rules.specs.declared.parts.Device.the-variants.{Pca9663}
 use Rattle.independent.specs.Keys.{atReset}
 use Rattle.independent.specs.Statement.{Accepted, NoChannelKey, OfChannel, Independent, thePart as part}
 use Rattle.sheet.specs.Model.{thePart}
@@ -31,18 +32,18 @@ abbrev maskOf : State → ℕ
 maskOf s = chan (s .part) 0 .head .regs .intmsk
 
 -- THE TWO RUNS
-pub runs-differ : (maskOf (ends part atReset mixed) ≡ 0x80) × (maskOf (ends part atReset (resetting ++ (beside ++ []))) ≡ 0x00)
+pub runs-differ : (maskOf (ends part (atReset Pca9663) mixed) ≡ 0x80) × (maskOf (ends part (atReset Pca9663) (resetting ++ (beside ++ []))) ≡ 0x00)
 unfolding thePart zeros
 runs-differ = (refl, refl)
 
-no-key : NoChannelKey atReset
+no-key : NoChannelKey (atReset Pca9663)
 no-key zero = refl
 no-key (suc zero) = refl
 no-key (suc (suc zero)) = refl
 no-key (suc (suc (suc c))) = refl
 
 -- all else that demand 3 asks for is there
-pub premises : Accepted atReset × NoChannelKey atReset × Mix Step resetting beside [] mixed × All (OfChannel 0) resetting × All (OfChannel 1) beside
+pub premises : Accepted (atReset Pca9663) × NoChannelKey (atReset Pca9663) × Mix Step resetting beside [] mixed × All (OfChannel 0) resetting × All (OfChannel 1) beside
 unfolding thePart
 premises = (
   refl,
@@ -53,7 +54,7 @@ premises = (
 )
 
 -- AND IT FAILS
-pub preset-disturbs : Independent part atReset resetting beside [] mixed → ⊥
+pub preset-disturbs : Independent part (atReset Pca9663) resetting beside [] mixed → ⊥
 preset-disturbs x =
     let e = ap maskOf (x .state) in
     let a = runs-differ .0 in

@@ -2,12 +2,15 @@
 use Prim.Native.Nat.{ℕ}
 use mathlib.Core.List.{List, [], _∷_}
 use mathlib.Core.Path.{_≡_}
+use Rattle.rules.specs.declared.parts.Device.{Device}
+use Rattle.rules.specs.declared.parts.Device.the-variants.{Pca9663}
 use Rattle.rules.specs.declared.wires.Action.{Action}
 use Rattle.steps.specs.declared.map.Step.{Step}
 use Rattle.steps.specs.declared.map.Step.the-variants.{Write, Read}
 use Rattle.steps.specs.declared.answer.PartAnswer.{PartAnswer}
 use Rattle.steps.specs.Answer.{quiet, onlyAt}
-use Rattle.part.specs.State.{freshPart, wiped, chan}
+use Rattle.part.specs.State.{chan}
+use Rattle.independent.specs.Keys.{atReset}
 use Rattle.works.specs.State.{State}
 use Rattle.sheet.specs.Model.{Model}
 
@@ -34,17 +37,24 @@ Holds model row = seen model (row .start) (row .lines) ≡ row .lines
 
 -- ---- words for the rows and the lines
 
--- a row that is run from the reset state, with its 13,056 bytes
+-- a row that is run from the reset state of a part, with its 13,056 bytes
+abbrev pub from : Device → List Entry → Row
+from d l = record { start = atReset d; lines = l }
+
+-- of the PCA9663
 abbrev pub fromReset : List Entry → Row
-fromReset l = record { start = record { part = freshPart; memory = wiped }; lines = l }
+fromReset l = from Pca9663 l
 
 -- a step that is answered 0, with no value and no action
 abbrev pub does : Step → Entry
 does s = gets s (record { number = 0; value = 0x00; actions = quiet })
 
--- a step that channel 0 answers 0 with an action
+-- a step that channel c answers 0 with an action, and channel 0
+abbrev pub actsAt : ℕ → Step → Action → Entry
+actsAt c s a = gets s (record { number = 0; value = 0x00; actions = onlyAt c a })
+
 abbrev pub acts : Step → Action → Entry
-acts s a = gets s (record { number = 0; value = 0x00; actions = onlyAt 0 a })
+acts s a = actsAt 0 s a
 
 -- a step that is refused by a number
 abbrev pub refuses : Step → ℕ → Entry

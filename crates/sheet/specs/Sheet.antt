@@ -3,6 +3,7 @@ use mathlib.Core.List.{List, [], _∷_, _++_}
 use mathlib.Core.Path.{refl}
 use lib.ListN.{replicate}
 use Rattle.laws.specs.Lists.{All}
+use Rattle.rules.specs.declared.parts.Device.the-variants.{Pca9663}
 use Rattle.rules.specs.declared.wires.Action.the-variants.{S, R, C, A, Np, P}
 use Rattle.rules.specs.declared.wires.Event.the-variants.{Ninth, Byte, Tick, Stop}
 use Rattle.rules.specs.declared.wires.Level.the-variants.{Low, High}
@@ -81,7 +82,7 @@ row9 =
     fromReset
     (two-writes
     ++ (acts (Wire 0 (Ninth High)) P ∷ does (Wire 0 Stop) ∷ reads 0xC1 0x20
-    ∷ does Reset ∷ writes 0xC2 0x20
+    ∷ does (Reset Pca9663) ∷ writes 0xC2 0x20
     ∷ two-writes
     ++ (acts (Wire 0 (Ninth High)) (R 0x42) ∷ [])))
 

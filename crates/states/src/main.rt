@@ -1,7 +1,7 @@
 // Records from outside: in range, and out of it by one clause of document 01's rule alone. A row of standard input alters a record in range and ends with a
 // step of a channel, as a script writes it. The record is handed to the single channel's step; as channel 0 of a part, to the part's; as channel 1, to a
 // trigger edge; as channel 2, to a hardware reset. A printed line is one row, and for each call the answer's number and whether the whole record and every
-// byte of the memory were left; or that the row can't be read. Lines that begin with # are passed over.
+// byte of the memory were left, and whether the part pulls INT with the record as its channel 1; or that the row can't be read. Lines that begin with # are passed over.
 mod names;
 mod record;
 
@@ -15,6 +15,7 @@ use names::Case;
 use part::Part;
 use part::PartStepped;
 use record::byte;
+use rules::Device;
 use rules::Edge;
 use script::Line;
 use steps::Op;
@@ -31,6 +32,14 @@ fn say_result(number: u8, left: bool) {
         say(b" left");
     } else {
         say(b" changed");
+    }
+}
+
+fn say_level(pulled: bool) {
+    if pulled {
+        say(b" pulled");
+    } else {
+        say(b" free");
     }
 }
 
@@ -84,7 +93,9 @@ fn run(k: [usize; 66], op: Op, s: Step) {
     say(b"; trigger");
     call_part(k, 1, Step::Trigger(Edge::Rising));
     say(b"; reset");
-    call_part(k, 2, Step::Reset);
+    call_part(k, 2, Step::Reset(Device::Pca9663));
+    say(b"; INT");
+    say_level(record::part_of(k, 1).interrupt());
     say(b"\n");
 }
 
@@ -102,7 +113,7 @@ fn run_step(c: Case, s: Step) {
             Step::Read(a) => run(k, Op::Read(a), s),
             Step::Wire(_, e) => run(k, Op::Wire(e), s),
             Step::Trigger(_) => say_unread(),
-            Step::Reset => say_unread(),
+            Step::Reset(_) => say_unread(),
         }
     } else {
         say_unread();

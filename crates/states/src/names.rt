@@ -5,7 +5,7 @@ ghost use lib.ListN.{length};
 // The number of an alteration (from 00h on, its place in a case) or of a phase (from 40h on), its name, and its largest value.
 struct Name(usize, [u8; 10], usize);
 
-const NAMED: usize = 34;
+const NAMED: usize = 38;
 
 const NAMES: [Name; NAMED] = [
     // the address byte of every transaction, how many there are, the length of each and that of the eighteenth, an entry and its BYTECOUNT
@@ -40,6 +40,11 @@ const NAMES: [Name; NAMED] = [
     Name(0x19, *b"CALLED    ", 0xFF),
     Name(0x1A, *b"OWN LENT  ", 13057),
     Name(0x1B, *b"ALL LENT  ", 13057),
+    // whether the record is a UFm channel's, whether the part's other channels are the PCU9669's, and two flags more
+    Name(0x1C, *b"UFM       ", 1),
+    Name(0x1D, *b"PCU9669   ", 1),
+    Name(0x1E, *b"WE        ", 1),
+    Name(0x1F, *b"RE        ", 1),
     // the phases, with a transaction, which only the middle three keep
     Name(0x40, *b"IDLE      ", 0xFF),
     Name(0x41, *b"ADDRESS   ", 0xFF),

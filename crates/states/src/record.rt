@@ -4,9 +4,12 @@ use channel::Channel;
 use head::Head;
 use head::Settings;
 use part::Part;
+use rules::Device;
+use rules::Kind;
 use rules::Phase;
 use rules::Ptrs;
 use rules::Regs;
+use rules::Straps;
 use rules::Walk;
 
 // ---- the record
@@ -38,6 +41,20 @@ fn walk_of(k: [usize; 66]) -> Walk {
     }
 }
 
+fn kind_of(ufm: usize) -> Kind {
+    match ufm {
+        1 => Kind::Ufm,
+        _ => Kind::Fm,
+    }
+}
+
+fn device_of(second: usize) -> Device {
+    match second {
+        1 => Device::Pcu9669,
+        _ => Device::Pca9663,
+    }
+}
+
 pub(crate) fn channel_of(k: [usize; 66]) -> Channel {
     let slatable = [byte(k[0x00]); 64];
     let mut tranconfig = [byte(k[0x02]); 65];
@@ -48,6 +65,8 @@ pub(crate) fn channel_of(k: [usize; 66]) -> Channel {
     bytecount[k[0x04] % 64] = byte(k[0x05]);
     let mut flags = sequence::no_flags();
     flags.sd = k[0x15] == 1;
+    flags.we = k[0x1E] == 1;
+    flags.re = k[0x1F] == 1;
     let walk = walk_of(k);
     let head = Head {
         regs: Regs {
@@ -58,6 +77,9 @@ pub(crate) fn channel_of(k: [usize; 66]) -> Channel {
             te: k[0x08] == 1,
         },
         key: k[0x14] == 1,
+        straps: Straps {
+            kind: kind_of(k[0x1C]),
+        },
         settings: Settings {
             framecnt: byte(k[0x07]),
             refrate: 0x00,
@@ -88,7 +110,7 @@ pub(crate) fn part_of(k: [usize; 66], i: usize) -> Part
     requires { ⌜ i < 3 ⌝ }
 {
     let c = channel_of(k);
-    let mut p = Part::new();
+    let mut p = Part::new(device_of(k[0x1D]));
     p.channels[i] = c;
     p.be = k[0x17] == 1;
     p.mask = byte(k[0x16]);
@@ -146,6 +168,12 @@ fn same_registers(a: Regs, b: Regs) -> bool {
     a.tp == b.tp && a.te == b.te
 }
 
+fn same_kind(a: Straps, b: Straps) -> bool {
+    let x = a.kind;
+    let y = b.kind;
+    rules::is_fm(x) == rules::is_fm(y)
+}
+
 fn same_pointers(a: Ptrs, b: Ptrs) -> bool {
     a.sla == b.sla && a.conf == b.conf && a.buf == b.buf && a.count == b.count
 }
@@ -155,6 +183,9 @@ fn same_head(a: Head, b: Head) -> bool {
         return false;
     }
     if !same_registers(a.regs, b.regs) || !same_pointers(a.ptrs, b.ptrs) {
+        return false;
+    }
+    if !same_kind(a.straps, b.straps) {
         return false;
     }
     same_walk(a.walk, b.walk) && same_settings(a.settings, b.settings)
