@@ -45,6 +45,12 @@ unfolding spotOf
 spot-open at e =
     pick-holds (λ (s : Spot). spotRefusal s ≡ 0 → at < bufferSize) (ltb at bufferSize) (λ t _. ltb-true at bufferSize t) (λ _ q. absurd (omega arith)) e
 
-pub data-open : (p : Phase) (at : ℕ) → dataRefusal p (spotOf at) ≡ 0 → (activeOf p ≡ false) × (at < bufferSize)
+data-both : (p : Phase) (s : Spot) → dataRefusal p s ≡ 0 → (activeOf p ≡ false) × (spotRefusal s ≡ 0)
 unfolding dataRefusal
-data-open p at e = let r = not-refused (activeOf p) locked _ (omega arith) e in (r .0, spot-open at (r .1))
+data-both p s e = not-refused (activeOf p) locked _ (omega arith) e
+
+pub data-unlocked : (p : Phase) (s : Spot) → dataRefusal p s ≡ 0 → activeOf p ≡ false
+data-unlocked p s e = data-both p s e .0
+
+pub data-open : (p : Phase) (at : ℕ) → dataRefusal p (spotOf at) ≡ 0 → at < bufferSize
+data-open p at e = spot-open at (data-both p _ e .1)
