@@ -40,7 +40,7 @@ readBy c m (Setting n) = on c (replied (c .head) (settingOf (c .head .settings) 
 readBy c m Preset = on c (plain (c .head))
 
 unfoldable pub readOf : Channel → List ℕ → Register → Served
-readOf c m reg = guarded (readRefusal (c .head .ptrs) reg) c m (leaving m (readBy c m reg))
+readOf c m reg = guarded (readRefusal (c .head .ptrs) (c .tranconfig) reg) c m (leaving m (readBy c m reg))
 
 -- ---- a write to CONTROL
 

@@ -34,7 +34,7 @@ fn read_by(
     mem: &[u8],
     reg: Register,
 ) -> Headed
-    requires { ⌜ Known reg × (readRefusal (h .ptrs) reg ≡ 0) × (length (now mem) ≡ bufferSize) ⌝ }
+    requires { ⌜ Known reg × (readRefusal (h .ptrs) (now lens) reg ≡ 0) × (length (now mem) ≡ bufferSize) ⌝ }
     ensures { λ r. ⌜ left r sla lens status counts ≡ readBy (found h sla lens status counts) (now (mem .entry)) reg ⌝ }
 {
     let g = h.regs;
@@ -64,13 +64,13 @@ pub(crate) fn read(
     mem: &[u8],
     place: Place,
 ) -> Headed
-    requires { ⌜ KnownPlace place × (length (now mem) ≡ bufferSize) ⌝ }
+    requires { ⌜ Accepted (lent h sla lens status counts) (now mem) × KnownPlace place ⌝ }
     ensures { λ r. ⌜ leaves r sla lens status counts mem ≡ readAt (found h sla lens status counts) (now (mem .entry)) place ⌝ }
 {
     let Place::Here(reg) = place else {
         return h.answer(NOWHERE);
     };
-    let n = h.read_refusal(reg);
+    let n = h.read_refusal(lens, reg);
     if n != 0 {
         return h.answer(n);
     }

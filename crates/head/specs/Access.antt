@@ -44,20 +44,20 @@ settingSet s n v = record {
 
 -- ---- reads
 
--- no. 4 past SLATABLE's, TRANCONFIG's or BYTECOUNT's last entry; no. 5 for DATA at 4,352
-unfoldable pub readRefusal : Ptrs → Register → ℕ
-readRefusal p (Status n) = done
-readRefusal p Control = done
-readRefusal p Chstatus = done
-readRefusal p Intmsk = done
-readRefusal p Slatable = pastRefusal 63 (p .sla)
-readRefusal p Tranconfig = pastRefusal 64 (p .conf)
-readRefusal p Data = spotRefusal (spotOf (p .buf))
-readRefusal p Transel = done
-readRefusal p Tranofs = done
-readRefusal p Bytecount = pastRefusal 63 (p .count)
-readRefusal p (Setting n) = done
-readRefusal p Preset = done
+-- no. 4 past SLATABLE's, TRANCONFIG's or BYTECOUNT's last entry; no. 5 for DATA at 4,352, and at or past the sum of the first count lengths
+unfoldable pub readRefusal : Ptrs → List ℕ → Register → ℕ
+readRefusal p lens (Status n) = done
+readRefusal p lens Control = done
+readRefusal p lens Chstatus = done
+readRefusal p lens Intmsk = done
+readRefusal p lens Slatable = pastRefusal 63 (p .sla)
+readRefusal p lens Tranconfig = pastRefusal 64 (p .conf)
+readRefusal p lens Data = spotRefusal (spotOf lens (p .buf))
+readRefusal p lens Transel = done
+readRefusal p lens Tranofs = done
+readRefusal p lens Bytecount = pastRefusal 63 (p .count)
+readRefusal p lens (Setting n) = done
+readRefusal p lens Preset = done
 
 -- CONTROL: recorded STOSEQ, STA (active), recorded STO, TP, TE
 abbrev pub controlOf : Head → ℕ
@@ -97,7 +97,7 @@ refusalOf h lens Chstatus v = readOnly
 refusalOf h lens Intmsk v = done
 refusalOf h lens Slatable v = slaRefusal (h .walk .phase) (h .ptrs .sla)
 refusalOf h lens Tranconfig v = confRefusal (h .walk .phase) (h .ptrs .conf) v
-refusalOf h lens Data v = dataRefusal (h .walk .phase) (spotOf (h .ptrs .buf))
+refusalOf h lens Data v = dataRefusal (h .walk .phase) (spotOf lens (h .ptrs .buf))
 refusalOf h lens Transel v = selRefusal lens v
 refusalOf h lens Tranofs v = placeRefusal (startOf lens (h .regs .transel) + v)
 refusalOf h lens Bytecount v = readOnly

@@ -56,10 +56,11 @@ fn setting_set(s: Settings, n: usize, v: u8) -> Settings
 }
 
 // The number that refuses a read of DATA at a place.
-fn spot_refusal_at(at: usize) -> u8
-    ensures { λ r. ⌜ r ≡ spotRefusal (spotOf at) ⌝ }
+fn spot_refusal_at(lens: &[u8; 65], at: usize) -> u8
+    requires { ⌜ getD (now lens) 0 0 ≤ 64 ⌝ }
+    ensures { λ r. ⌜ r ≡ spotRefusal (spotOf (now (lens .entry)) at) ⌝ }
 {
-    rules::spot_refusal(rules::find_place(at))
+    rules::spot_refusal(rules::find_place(lens, at))
 }
 
 impl Head {
@@ -105,8 +106,9 @@ impl Head {
 
     // ---- reads
 
-    pub fn read_refusal(self, reg: Register) -> u8
-        ensures { λ r. ⌜ r ≡ readRefusal (self .ptrs) reg ⌝ }
+    pub fn read_refusal(self, lens: &[u8; 65], reg: Register) -> u8
+        requires { ⌜ getD (now lens) 0 0 ≤ 64 ⌝ }
+        ensures { λ r. ⌜ r ≡ readRefusal (self .ptrs) (now (lens .entry)) reg ⌝ }
     {
         let p = self.ptrs;
         match reg {
@@ -116,7 +118,7 @@ impl Head {
             Register::Intmsk => DONE,
             Register::Slatable => rules::past_refusal(63, p.sla),
             Register::Tranconfig => rules::past_refusal(64, p.conf),
-            Register::Data => spot_refusal_at(p.buf),
+            Register::Data => spot_refusal_at(lens, p.buf),
             Register::Transel => DONE,
             Register::Tranofs => DONE,
             Register::Bytecount => rules::past_refusal(63, p.count),
@@ -264,7 +266,7 @@ impl Head {
     }
 
     pub fn refusal(self, lens: &[u8; 65], reg: Register, v: u8) -> u8
-        requires { ⌜ self .regs .transel ≤ 63 ⌝ }
+        requires { ⌜ (self .regs .transel ≤ 63) × (getD (now lens) 0 0 ≤ 64) ⌝ }
         ensures { λ r. ⌜ r ≡ refusalOf self (now (lens .entry)) reg v ⌝ }
     {
         let w = self.walk;
@@ -277,7 +279,7 @@ impl Head {
             Register::Intmsk => DONE,
             Register::Slatable => rules::sla_refusal(phase, p.sla),
             Register::Tranconfig => rules::conf_refusal(phase, p.conf, v),
-            Register::Data => rules::data_refusal(phase, rules::find_place(p.buf)),
+            Register::Data => rules::data_refusal(phase, rules::find_place(lens, p.buf)),
             Register::Transel => rules::sel_refusal(lens, v),
             Register::Tranofs => self.ofs_refusal(lens, v),
             Register::Bytecount => READ_ONLY,

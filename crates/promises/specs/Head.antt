@@ -26,8 +26,8 @@ use Rattle.head.specs.Range.{headIn}
 use Rattle.promises.specs.Promise.{Once, no-second, both}
 
 -- ---- access.rt
-pub read-refusal-once : (self : Head) (reg : Register) → Once ℕ (λ r. r ≡ readRefusal (self .ptrs) reg)
-read-refusal-once self reg = no-second (λ r h. h)
+pub read-refusal-once : (self : Head) (lens : List ℕ) (reg : Register) → Once ℕ (λ r. r ≡ readRefusal (self .ptrs) lens reg)
+read-refusal-once self lens reg = no-second (λ r h. h)
 
 pub read-status-once : (self : Head) (status : List ℕ) (n : ℕ) → Once Headed (λ r. r ≡ replied self (getD status n 0))
 read-status-once self status n = no-second (λ r h. h)

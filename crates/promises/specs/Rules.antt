@@ -17,7 +17,7 @@ use Rattle.rules.specs.declared.state.Phase.{Phase}
 use Rattle.rules.specs.declared.wires.Action.{Action}
 use Rattle.rules.specs.Access.{busyRefusal, pastRefusal, placeRefusal, slaRefusal, confRefusal, spotOf, spotRefusal, dataRefusal, selRefusal}
 use Rattle.rules.specs.Access.{keptIf, rewound, pointedAt, overrunOf, presetOf, keyAfter, resetsOf}
-use Rattle.rules.specs.Facts.{InBuffer, KnownPlace}
+use Rattle.rules.specs.Facts.{Configured, KnownPlace}
 use Rattle.rules.specs.Parts.{isFm, otherKind, deviceBy, deviceId}
 use Rattle.rules.specs.Registers.{placeOf, activeOf, bitOf, commandOf, weigh, controlValue, chstatusValue, maskKept}
 use Rattle.rules.specs.Tables.{startOf, fitting, readsOf, skippedOf, firstSent, marked}
@@ -40,8 +40,8 @@ sla-refusal-once p at = no-second (λ r h. h)
 pub conf-refusal-once : (p : Phase) (at v : ℕ) → Once ℕ (λ r. r ≡ confRefusal p at v)
 conf-refusal-once p at v = no-second (λ r h. h)
 
-pub find-place-once : (at : ℕ) → Once Spot (λ r. (r ≡ spotOf at) × InBuffer r)
-find-place-once at = no-second (λ r h. h .0)
+pub find-place-once : (lens : List ℕ) (at : ℕ) → Once Spot (λ r. (r ≡ spotOf lens at) × Configured lens r)
+find-place-once lens at = no-second (λ r h. h .0)
 
 pub spot-refusal-once : (s : Spot) → Once ℕ (λ r. r ≡ spotRefusal s)
 spot-refusal-once s = no-second (λ r h. h)

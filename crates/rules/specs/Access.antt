@@ -12,7 +12,7 @@ use Rattle.rules.specs.declared.registers.Register.{Register}
 use Rattle.rules.specs.declared.registers.Register.the-variants.{Status, Control, Chstatus, Intmsk, Slatable, Tranconfig, Data, Transel, Tranofs, Bytecount, Setting, Preset}
 use Rattle.rules.specs.Numbers.{bufferSize, done, locked, pastTable, pastBuffer, manyTransactions}
 use Rattle.rules.specs.Registers.{activeOf}
-use Rattle.rules.specs.Tables.{startOf}
+use Rattle.rules.specs.Tables.{startOf, configuredAt}
 
 -- ---- nos. 3, 4 and 6, checked in that order
 
@@ -55,11 +55,11 @@ placeRefusal at = if ltb at bufferSize then done else pastBuffer
 unfoldable pub selRefusal : List ℕ → ℕ → ℕ
 selRefusal lens v = if ltb 63 v then pastBuffer else placeRefusal (startOf lens v)
 
--- DATA uses its own pointer: the place of the buffer at which it stands
-unfoldable pub spotOf : ℕ → Spot
-spotOf at = if ltb at bufferSize then At at else Outside
+-- DATA uses its own pointer: the place at which it stands, one of the buffer and configured. With a sum above 4,352 both limits hold
+unfoldable pub spotOf : List ℕ → ℕ → Spot
+spotOf lens at = if ltb at bufferSize then (if configuredAt lens at then At at else Outside) else Outside
 
--- DATA at 4,352: no. 5
+-- DATA at 4,352: no. 5; and a DATA access at or past the sum of the first count lengths gets no. 5 (document 02, request Seven)
 abbrev pub spotRefusal : Spot → ℕ
 spotRefusal (At i) = done
 spotRefusal Outside = pastBuffer

@@ -34,10 +34,10 @@ abbrev pub KnownPlace : Place → Type 0
 KnownPlace (Here r) = Known r
 KnownPlace Elsewhere = Unit {0}
 
--- a place that is found is one of the buffer
-abbrev pub InBuffer : Spot → Type 0
-InBuffer (At i) = i < bufferSize
-InBuffer Outside = Unit {0}
+-- a place that is found is one of the buffer, and configured: below the sum of the first count lengths
+abbrev pub Configured : List ℕ → Spot → Type 0
+Configured lens (At i) = (i < bufferSize) × (i < sumOf lens)
+Configured lens Outside = Unit {0}
 
 -- whether a transaction is skipped, told by the longest read that is
 abbrev pub Skips : ℕ → ℕ → ℕ → Bool → Type 0

@@ -3,7 +3,7 @@ use Prim.Native.Nat.{ℕ, zero, suc, _+_, _-_, _%_}
 use mathlib.Core.Bool.{Bool, true, false}
 use mathlib.Core.List.{List}
 use lib.ListN.{getD, set}
-use lib.Dec.{eqb, leb}
+use lib.Dec.{eqb, ltb, leb}
 use Rattle.laws.specs.Pick.{if_then_else_}
 use Rattle.rules.specs.declared.parts.Kind.{Kind}
 use Rattle.rules.specs.Numbers.{bufferSize, doneStatus}
@@ -21,6 +21,10 @@ sumOf lens = startOf lens (getD lens 0 0)
 -- they sum to at most 4,352
 unfoldable pub fitting : List ℕ → Bool
 fitting lens = leb (sumOf lens) bufferSize
+
+-- a place below that sum is configured: one at or past it is not, and lengths behind the count configure none (document 02, request Seven)
+unfoldable pub configuredAt : List ℕ → ℕ → Bool
+configuredAt lens at = ltb at (sumOf lens)
 
 -- bit 0 of a SLATABLE byte: 1 for a read
 abbrev pub readsOf : ℕ → Bool

@@ -2,7 +2,9 @@
 ghost use mathlib.Core.Path.{_≡_};
 ghost use Rattle.rules.specs.Access.{busyRefusal, lockedOf, pastRefusal, tooMany, slaRefusal, confRefusal, placeRefusal, selRefusal, spotOf, spotRefusal, dataRefusal};
 ghost use Rattle.rules.specs.Access.{rewound, atMost, pointedAt, overrunOf, presetOf, keyAfter, resetsOf, keptIf};
-ghost use Rattle.rules.specs.Facts.{InBuffer};
+ghost use Prim.Native.Nat.{_≤_};
+ghost use lib.ListN.{getD};
+ghost use Rattle.rules.specs.Facts.{Configured};
 use crate::numbers::BUFFER;
 use crate::numbers::DONE;
 use crate::numbers::LOCKED;
@@ -12,9 +14,10 @@ use crate::numbers::PAST_TABLE;
 use crate::registers::Register;
 use crate::registers::active;
 use crate::state::Phase;
+use crate::tables::configured;
 use crate::tables::start_of;
 
-// Where DATA's pointer stands: at a place of the buffer, or outside.
+// Where DATA's pointer stands: at a configured place of the buffer, or outside.
 pub enum Spot {
     At(usize),
     Outside,
@@ -97,11 +100,15 @@ pub fn sel_refusal(lens: &[u8; 65], v: u8) -> u8
     place_refusal(start)
 }
 
-// Finds the place of the buffer at which DATA's pointer stands.
-pub fn find_place(at: usize) -> Spot
-    ensures { λ r. ⌜ (r ≡ spotOf at) × InBuffer r ⌝ }
+// Finds the place of the buffer at which DATA's pointer stands, if TRANCONFIG configures it.
+pub fn find_place(lens: &[u8; 65], at: usize) -> Spot
+    requires { ⌜ getD (now lens) 0 0 ≤ 64 ⌝ }
+    ensures { λ r. ⌜ (r ≡ spotOf (now (lens .entry)) at) × Configured (now (lens .entry)) r ⌝ }
 {
-    if at < BUFFER {
+    if BUFFER <= at {
+        return Spot::Outside;
+    }
+    if configured(lens, at) {
         Spot::At(at)
     } else {
         Spot::Outside

@@ -3,7 +3,7 @@ ghost use mathlib.Core.Path.{_≡_};
 ghost use Prim.Native.Nat.{_*_, _<_, _≤_};
 ghost use lib.ListN.{getD, length, replicate};
 ghost use Rattle.rules.specs.Facts.{Skips};
-ghost use Rattle.rules.specs.Tables.{startOf, fitting, readsOf, longestSkipped, skippedOf, firstSent, marked};
+ghost use Rattle.rules.specs.Tables.{startOf, fitting, configuredAt, readsOf, longestSkipped, skippedOf, firstSent, marked};
 use crate::numbers::BUFFER;
 use crate::numbers::DONE_STATUS;
 use crate::parts::Kind;
@@ -37,6 +37,24 @@ pub fn fits(lens: &[u8; 65]) -> bool
 {
     let count = lens[0];
     start_of(lens, count as usize) <= BUFFER
+}
+
+// Whether a place lies below the sum of the first count lengths. It looks at no more lengths than must be summed to get past the place.
+pub(crate) fn configured(lens: &[u8; 65], at: usize) -> bool
+    requires { ⌜ getD (now lens) 0 0 ≤ 64 ⌝ }
+    ensures { λ r. ⌜ r ≡ configuredAt (now (lens .entry)) at ⌝ }
+{
+    let count = byte(lens[0]);
+    let mut end: usize = 0;
+    let mut i: usize = 0;
+    while i < count {
+        i += 1;
+        end += byte(lens[i]);
+        if at < end {
+            return true;
+        }
+    }
+    false
 }
 
 pub fn reads(sla: u8) -> bool

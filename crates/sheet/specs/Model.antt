@@ -3,7 +3,7 @@ use Rattle.laws.specs.Pick.{if_then_else_}
 use Rattle.rules.specs.Access.{busyRefusal, pastRefusal, tooMany, placeRefusal, slaRefusal, confRefusal, spotOf, dataRefusal, selRefusal, keptIf, rewound, pointedAt, overrunOf, keyAfter, resetsOf}
 use Rattle.bounds.specs.Range.{pointersIn, registersIn, countingOf, endedIn, blankOf, recordedIn, walkIn, standing, countedIn, clearFrom, countsIn, frameAt, frameIn, kindsIn}
 use Rattle.rules.specs.Registers.{settingAt, tableAt, registerAt, statusPlace, registerPlace, placeOf, weigh, controlValue, chstatusValue}
-use Rattle.rules.specs.Tables.{startOf, fitting, readSkipped, skippedOf, sentFrom, markFrom}
+use Rattle.rules.specs.Tables.{startOf, fitting, configuredAt, readSkipped, skippedOf, sentFrom, markFrom}
 use Rattle.sequence.specs.Walk.{nackFlags, endFlags, endWalk, faultFlags}
 use Rattle.sequence.specs.Wires.{startAsked, stopAsked, askedIn, askOf, beginningOf, haltedOf, reachOf, moveOf, nextOf, maskedOf, tickingOf, tickTurn, heardTurn, turnOf, restOf, endingOf, fldAfter}
 use Rattle.steps.specs.Map.{channelAt, ctrlAt, writeTarget, readTarget, wireTarget, targetOf}
@@ -34,7 +34,7 @@ unfolding if_then_else_
     busyRefusal pastRefusal tooMany placeRefusal slaRefusal confRefusal spotOf dataRefusal selRefusal keptIf rewound pointedAt overrunOf keyAfter resetsOf
     pointersIn registersIn countingOf endedIn blankOf recordedIn walkIn standing countedIn clearFrom countsIn frameAt frameIn kindsIn
     settingAt tableAt registerAt statusPlace registerPlace placeOf weigh controlValue chstatusValue
-    startOf fitting readSkipped skippedOf sentFrom markFrom
+    startOf fitting configuredAt readSkipped skippedOf sentFrom markFrom
     nackFlags endFlags endWalk faultFlags
     startAsked stopAsked askedIn askOf beginningOf haltedOf reachOf moveOf nextOf maskedOf tickingOf tickTurn heardTurn turnOf restOf endingOf fldAfter
     settingOf settingSet readRefusal readBy readOf asked controlled refusalOf writtenBy writeOf putOf

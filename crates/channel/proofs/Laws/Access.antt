@@ -34,7 +34,7 @@ pub known-setting : (reg : Register) (n : ℕ) → Known reg → reg ≡ Setting
 known-setting reg n h e = rw e at h
 
 -- ---- a read
-module _ (p : Ptrs) (reg : Register) (e : readRefusal p reg ≡ 0) where
+module _ (p : Ptrs) (lens : List ℕ) (reg : Register) (e : readRefusal p lens reg ≡ 0) where
   pub read-sla : reg ≡ Slatable → p .sla < 64
   unfolding readRefusal
   read-sla q = let h = not-past 63 (p .sla) (rw q at e) in omega arith
@@ -45,7 +45,7 @@ module _ (p : Ptrs) (reg : Register) (e : readRefusal p reg ≡ 0) where
 
   pub read-data : (n : ℕ) → reg ≡ Data → n ≡ bufferSize → p .buf < n
   unfolding readRefusal
-  read-data n q l = let h = spot-open (p .buf) (rw q at e) in omega arith
+  read-data n q l = let h = spot-open lens (p .buf) (rw q at e) in omega arith
 
   pub read-count : reg ≡ Bytecount → p .count < 64
   unfolding readRefusal
@@ -65,7 +65,7 @@ module _ (h : Head) (lens : List ℕ) (reg : Register) (v : ℕ) (e : refusalOf 
 
   pub write-data : (n : ℕ) → reg ≡ Data → n ≡ bufferSize → h .ptrs .buf < n
   unfolding refusalOf
-  write-data n q l = let g = data-open (h .walk .phase) (h .ptrs .buf) (rw q at e) in omega arith
+  write-data n q l = let g = data-open (h .walk .phase) lens (h .ptrs .buf) (rw q at e) in omega arith
 
   pub write-sel : reg ≡ Transel → v ≤ 63
   unfolding refusalOf

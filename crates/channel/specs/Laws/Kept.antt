@@ -189,7 +189,7 @@ controlled-in c k h =
     (λ _. asks _ g (c .head .walk .phase) k (teAfter (c .head) k) (phase-in (ready c k) [] g)))
 
 -- ---- reads
-read-in : (c : Channel) (m : List ℕ) (reg : Register) → readRefusal (c .head .ptrs) reg ≡ 0 → In c → Good (readBy c m reg)
+read-in : (c : Channel) (m : List ℕ) (reg : Register) → readRefusal (c .head .ptrs) (c .tranconfig) reg ≡ 0 → In c → Good (readBy c m reg)
 unfolding readRefusal readBy
 read-in c m (Status n) e h = h
 read-in c m Control e h = h
@@ -205,7 +205,7 @@ read-in c m Tranconfig e h =
     (of-points _ (record { sla = p .sla; count = p .count; conf = omega arith; buf = p .buf }), h .1, h .2, h .3)
 read-in c m Data e h =
     let p = points-of _ (h .0) in
-    let g = spot-open (c .head .ptrs .buf) e in
+    let g = spot-open (c .tranconfig) (c .head .ptrs .buf) e in
     (of-points _ (record { sla = p .sla; count = p .count; conf = p .conf; buf = omega arith }), h .1, h .2, h .3)
 read-in c m Transel e h = h
 read-in c m Tranofs e h = h
@@ -243,7 +243,7 @@ write-in c m Tranconfig v e h =
     )
 write-in c m Data v e h =
     let p = points-of _ (h .0) in
-    let g = data-open (c .head .walk .phase) (c .head .ptrs .buf) e in
+    let g = data-open (c .head .walk .phase) (c .tranconfig) (c .head .ptrs .buf) e in
     ((of-points _ (record { sla = p .sla; count = p .count; conf = p .conf; buf = omega arith }), h .1, h .2, h .3), length-set m _ v)
 write-in c m Transel v e h =
     let p = points-of _ (h .0) in

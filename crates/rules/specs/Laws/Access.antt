@@ -1,17 +1,19 @@
 -- What an access that is not refused may rely on.
-use mathlib.Core.Bool.{false}
+use mathlib.Core.Bool.{Bool, true, false}
 use mathlib.Core.List.{List}
-use mathlib.Core.Path.{_≡_}
+use mathlib.Core.Path.{_≡_, refl, sym, _∙_}
 use Prim.Native.Nat.{ℕ, _<_, _≤_}
 use native.Mathlib.Omega.{arith}
 use borrow.Author.Tests.{ltb-true, ltb-false}
 use lib.Dec.{ltb}
 use Rattle.laws.specs.Cases.{not-refused, accepted, pick-holds}
 use Rattle.rules.specs.declared.access.Spot.{Spot}
+use Rattle.rules.specs.declared.access.Spot.the-variants.{At}
 use Rattle.rules.specs.declared.state.Phase.{Phase}
 use Rattle.rules.specs.Numbers.{bufferSize, done, locked, pastTable, pastBuffer, manyTransactions}
 use Rattle.rules.specs.Registers.{activeOf}
-use Rattle.rules.specs.Tables.{startOf}
+use Rattle.rules.specs.Facts.{Configured}
+use Rattle.rules.specs.Tables.{startOf, sumOf, configuredAt}
 use Rattle.rules.specs.Access.{busyRefusal, lockedOf, pastRefusal, tooMany, slaRefusal, confRefusal, placeRefusal, selRefusal, spotOf, spotRefusal, dataRefusal}
 
 pub not-busy : (p : Phase) → busyRefusal p ≡ 0 → activeOf p ≡ false
@@ -40,10 +42,29 @@ pub sel-open : (lens : List ℕ) (v : ℕ) → selRefusal lens v ≡ 0 → (v �
 unfolding selRefusal
 sel-open lens v e = let r = not-refused _ pastBuffer _ (omega arith) e in (ltb-false 63 v (r .0), placed (startOf lens v) (r .1))
 
-pub spot-open : (at : ℕ) → spotRefusal (spotOf at) ≡ 0 → at < bufferSize
+-- what is found is configured: the finder's promise, which whoever reads or writes there has from it
+pub below-sum : (lens : List ℕ) (at : ℕ) (b : Bool) → b ≡ configuredAt lens at → b ≡ true → at < sumOf lens
+unfolding configuredAt
+below-sum lens at b e t = ltb-true at (sumOf lens) (sym e ∙ t)
+
+found : (lens : List ℕ) (at : ℕ) → Configured lens (spotOf lens at)
 unfolding spotOf
-spot-open at e =
-    pick-holds (λ (s : Spot). spotRefusal s ≡ 0 → at < bufferSize) (ltb at bufferSize) (λ t _. ltb-true at bufferSize t) (λ _ q. absurd (omega arith)) e
+found lens at =
+    pick-holds (Configured lens) _
+    (λ t. pick-holds (Configured lens) _ (λ u. (ltb-true at bufferSize t, below-sum lens at _ refl u)) (λ _. tt))
+    (λ _. tt)
+
+-- and it is the place that was asked for
+found-at : (lens : List ℕ) (at : ℕ) → spotRefusal (spotOf lens at) ≡ 0 → spotOf lens at ≡ At at
+unfolding spotOf
+found-at lens at e =
+    pick-holds (λ (s : Spot). spotRefusal s ≡ 0 → s ≡ At at) (ltb at bufferSize)
+    (λ _. pick-holds (λ (s : Spot). spotRefusal s ≡ 0 → s ≡ At at) (configuredAt lens at) (λ _ _. refl) (λ _ q. absurd (omega arith)))
+    (λ _ q. absurd (omega arith))
+    e
+
+pub spot-open : (lens : List ℕ) (at : ℕ) → spotRefusal (spotOf lens at) ≡ 0 → Configured lens (At at)
+spot-open lens at e = rw (found-at lens at e) at (found lens at)
 
 data-both : (p : Phase) (s : Spot) → dataRefusal p s ≡ 0 → (activeOf p ≡ false) × (spotRefusal s ≡ 0)
 unfolding dataRefusal
@@ -52,5 +73,5 @@ data-both p s e = not-refused (activeOf p) locked _ (omega arith) e
 pub data-unlocked : (p : Phase) (s : Spot) → dataRefusal p s ≡ 0 → activeOf p ≡ false
 data-unlocked p s e = data-both p s e .0
 
-pub data-open : (p : Phase) (at : ℕ) → dataRefusal p (spotOf at) ≡ 0 → at < bufferSize
-data-open p at e = spot-open at (data-both p _ e .1)
+pub data-open : (p : Phase) (lens : List ℕ) (at : ℕ) → dataRefusal p (spotOf lens at) ≡ 0 → Configured lens (At at)
+data-open p lens at e = spot-open lens at (data-both p _ e .1)

@@ -1,13 +1,13 @@
 -- The laws of the tables' definitions, one for each way that a loop goes on or ends; and what a frame that fits says of a place.
 use mathlib.Core.Bool.{Bool, true, false, not}
 use mathlib.Core.List.{List}
-use mathlib.Core.Path.{_≡_, refl, _∙_}
+use mathlib.Core.Path.{_≡_, refl, sym, _∙_}
 use Prim.Native.Nat.{ℕ, zero, suc, _+_, _-_, _<_, _≤_}
 use native.Mathlib.Numerals.{add-one}
 use native.Mathlib.Nat.{add-zero, add-suc}
 use native.Mathlib.Omega.{arith}
 use borrow.Author.Needs.{needs}
-use borrow.Author.Tests.{not-false, not-true, eqb-true, eqb-false, le-leb, lt-leb}
+use borrow.Author.Tests.{not-false, not-true, eqb-true, eqb-false, le-leb, lt-leb, lt-ltb, le-ltb}
 use lib.Dec.{eqb, leb}
 use lib.ListN.{getD, set}
 use Rattle.laws.specs.Pick.{if_then_else_}
@@ -16,7 +16,7 @@ use Rattle.rules.specs.declared.parts.Kind.{Kind}
 use Rattle.rules.specs.declared.parts.Kind.the-variants.{Fm, Ufm}
 use Rattle.rules.specs.Numbers.{doneStatus}
 use Rattle.rules.specs.Facts.{Skips}
-use Rattle.rules.specs.Tables.{startOf, readsOf, readSkipped, skippedOf, longestSkipped, sentFrom, firstSent, markFrom, marked}
+use Rattle.rules.specs.Tables.{startOf, configuredAt, readsOf, readSkipped, skippedOf, longestSkipped, sentFrom, firstSent, markFrom, marked}
 
 -- ---- startOf
 pub start-none : (l : List ℕ) → 0 ≡ startOf l 0
@@ -86,6 +86,18 @@ start-next l i n h =
     let e : n ≡ (i + 1) + (n - (i + 1)) = omega arith in
     let g = start-add l (i + 1) (n - (i + 1)) in
     rw (start-more l i _ _ refl refl) (rw e g)
+
+-- ---- configuredAt: a place below the sum so far, and one at or past the sum of all
+start-grows : (l : List ℕ) (i n : ℕ) → i ≤ n → startOf l i ≤ startOf l n
+start-grows l i n h = let e : n ≡ i + (n - i) = omega arith in rw e (start-add l i (n - i))
+
+pub passed : (l : List ℕ) (at i n s : ℕ) → n ≡ getD l 0 0 → s ≡ startOf l i → i ≤ n → at < s → true ≡ configuredAt l at
+unfolding configuredAt
+passed l at i n s c e h k = let g = start-grows l i n h in rw (← c) (sym (lt-ltb at (startOf l n) (omega arith)))
+
+pub not-passed : (l : List ℕ) (at i n s : ℕ) → n ≡ getD l 0 0 → s ≡ startOf l i → i ≤ n → n ≤ i → s ≤ at → false ≡ configuredAt l at
+unfolding configuredAt
+not-passed l at i n s c e h k g = let q = start-end l i n s e h k in rw (← c, ← q) (sym (le-ltb at s g))
 
 -- ---- the transaction that firstSent finds is not skipped
 sent-from : (c : Kind) (s l : List ℕ) (i left : ℕ) → i ≤ sentFrom c s l i left

@@ -1,5 +1,5 @@
 -- `channel::access::read` meets its contract.
-use Rattle.channel.proofs.Laws.Access.{guarded-no, guarded-yes}
+use Rattle.channel.proofs.Laws.Access.{accepted-count, guarded-no, guarded-yes}
 use Rattle.channel.proofs.Laws.Step.{keeps, known-here}
 use Rattle.channel.specs.Access.{readOf}
 use Rattle.channel.specs.Step.{readAt}
@@ -8,12 +8,17 @@ use mathlib.Core.Path.{_∙_, sym}
 use Rattle.channel.proofs.access.read.Statement.{statement}
 use Rattle.channel.proofs.access.read.Tie as tie
 
+refusal-needs : tie.Need-read-refusal-requires
+refusal-needs c κs =
+    let here = c .before in
+    let start = here .before .before .before in accepted-count _ _ (start .pre .0)
+
 read-by-needs : tie.Need-read-by-requires
 read-by-needs c κs =
     let refusal = c .before in
     let here = refusal .before .before in
     let start = here .before .before .before in
-    (known-here _ _ (start .pre .0) (here .place .given .1), sym (refusal .read-refusal .ensures) ∙ c .if1 .left, start .pre .1)
+    (known-here _ _ (start .pre .1) (here .place .given .1), sym (refusal .read-refusal .ensures) ∙ c .if1 .left, start .pre .0 .whole)
 
 refused : tie.Need-returns-2
 unfolding readAt readOf
@@ -38,7 +43,7 @@ read-spec =
     (λ c. search needs)
     (λ c. λ κs. search needs)
     (λ c. rw (c .before .enum-told .given .1, c .answer .ensures))
-    (λ c. λ κs. search needs)
+    refusal-needs
     (λ c. λ κs. search needs)
     refused
     read-by-needs

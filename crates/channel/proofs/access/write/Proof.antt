@@ -1,5 +1,5 @@
 -- `channel::access::write` meets its contract: the reset by the key, a refusal, or the write.
-use Rattle.channel.proofs.Laws.Access.{accepted-sel, write-reset, write-refused, write-done}
+use Rattle.channel.proofs.Laws.Access.{accepted-sel, accepted-count, write-reset, write-refused, write-done}
 use Rattle.channel.proofs.Laws.Step.{known-here}
 use Rattle.channel.specs.Range.{inRange}
 use Rattle.head.specs.Range.{headIn}
@@ -22,7 +22,8 @@ refusal-needs : tie.Need-refusal-requires
 unfolding inRange headIn
 refusal-needs c κs =
     let keyed = c .before in
-    let start = keyed .before .before .before .before .before .before .before .before .before in rw (keyed .with-key .ensures) (accepted-sel _ _ (start .pre .0))
+    let start = keyed .before .before .before .before .before .before .before .before .before in
+    (rw (keyed .with-key .ensures) (accepted-sel _ _ (start .pre .0)), accepted-count _ _ (start .pre .0))
 
 refused : tie.Need-returns-3
 refused c =
