@@ -187,12 +187,17 @@ static void push_byte(unsigned c)
 
 /* ---- Lengths and addresses --------------------------------------------- */
 
-static unsigned sum_of(const struct plan *pl)
+static unsigned sum_before(const uint8_t *len, unsigned v)
 {
     unsigned sum = 0;
-    for (unsigned t = 0; t < pl->n; t++)
-        sum += pl->len[t];
+    for (unsigned t = 0; t < v; t++)
+        sum += len[t];
     return sum;
+}
+
+static unsigned sum_of(const struct plan *pl)
+{
+    return sum_before(pl->len, pl->n);
 }
 
 static unsigned channel_of(const struct plan *pl)
@@ -264,17 +269,43 @@ static void choose_manner(struct plan *pl)
     pl->held = 0;
 }
 
-static void push_tables(unsigned c)
+/* CTRLINTMSK is mostly 0 again afterwards, so that INT goes on showing what
+ * happens. */
+static void push_part_masks(unsigned c, unsigned causes)
 {
-    struct plan *pl = &plans[c];
+    for (unsigned i = between(1, 3); i > 0; i--)
+        push_write_at(c, R_CTRLINTMSK, telling_mask(causes));
+    if (one_in(2))
+        push_read_at(c, R_CTRLSTATUS);
+    if (!one_in(4))
+        push_write_at(c, R_CTRLINTMSK, 0);
+}
+
+/* "Scripts must load TRANCONFIG before DATA." Gives DATA's place then, which
+ * goes by the tables before. */
+static unsigned push_tables(unsigned c)
+{
+    const struct plan *pl = &plans[c];
+    const struct channel *ch = &part.ch[c];
+    unsigned place = 0;
     if (!one_in(5))
         push_write(c, R_TRANSEL, 0);
+    else
+        place = start_of(ch, ch->transel) + ch->tranofs;
     push_write(c, R_CONTROL, AIPTRRST | (one_in(3) ? BPTRRST : 0));
     push_write(c, R_TRANCONFIG, pl->n);
     for (unsigned t = 0; t < pl->n; t++)
         push_write(c, R_TRANCONFIG, pl->len[t]);
     for (unsigned t = 0; t < pl->n; t++)
         push_write(c, R_SLATABLE, pl->sla[t]);
+    return place;
+}
+
+/* The count anew, and no length; in Waiting too */
+static void push_count(unsigned c, unsigned n)
+{
+    push_write(c, R_CONTROL, AIPTRRST);
+    push_write(c, R_TRANCONFIG, n);
 }
 
 static void push_manner(unsigned c)
@@ -294,6 +325,64 @@ static void push_data(unsigned c, unsigned bytes)
 {
     while (bytes-- > 0)
         push_write(c, R_DATA, below(256));
+}
+
+static void push_data_reads(unsigned c, unsigned bytes)
+{
+    while (bytes-- > 0)
+        push_read(c, R_DATA);
+}
+
+/* DATA read and written by turns of chance */
+static void push_accesses(unsigned c, unsigned n)
+{
+    while (n-- > 0)
+        if (one_in(2))
+            push_read(c, R_DATA);
+        else
+            push_write(c, R_DATA, below(256));
+}
+
+/* What is left of a sum from a place on; now and then a byte too many */
+static unsigned left_of(unsigned sum, unsigned place)
+{
+    return (place < sum ? sum - place : 0) + (unsigned)one_in(6);
+}
+
+/* TRANSEL and TRANOFS to a place: by one of n transactions, or by the one
+ * behind them, that starts at most 255 before it */
+static void push_place(unsigned c, const uint8_t *len, unsigned n,
+                       unsigned place)
+{
+    unsigned v = 0, offset = 0, found = 0, start = 0;
+    for (unsigned t = 0; t <= n && t < ENTRIES && start <= place; t++) {
+        if (place - start <= 255 && one_in(++found)) {
+            v = t;
+            offset = place - start;
+        }
+        start += t < n ? len[t] : 0;
+    }
+    push_write(c, R_TRANSEL, v);
+    if (offset > 0 || one_in(4))
+        push_write(c, R_TRANOFS, offset);
+}
+
+/* DATA just below the sum, at it and past it */
+static void push_edge(unsigned c, const uint8_t *len, unsigned n, unsigned sum)
+{
+    push_place(c, len, n, sum + below(4) - (sum > 0));
+    if (one_in(4))
+        push_write(c, R_CONTROL, AIPTRRST);
+    push_accesses(c, between(1, 3));
+    if (one_in(4))
+        push_part_masks(c, BE);
+}
+
+/* The same by the tables of now */
+static void push_edge_of_now(unsigned c)
+{
+    const struct channel *ch = &part.ch[c];
+    push_edge(c, ch->tranconfig + 1, ENTRIES, configured(ch));
 }
 
 static void push_start(unsigned c)
@@ -340,18 +429,6 @@ static void push_bytecount_reads(unsigned c, unsigned n)
         push_read(c, R_BYTECOUNT);
 }
 
-/* CTRLINTMSK is mostly 0 again afterwards, so that INT goes on showing what
- * happens. */
-static void push_part_masks(unsigned c, unsigned causes)
-{
-    for (unsigned i = between(1, 3); i > 0; i--)
-        push_write_at(c, R_CTRLINTMSK, telling_mask(causes));
-    if (one_in(2))
-        push_read_at(c, R_CTRLSTATUS);
-    if (!one_in(4))
-        push_write_at(c, R_CTRLINTMSK, 0);
-}
-
 /* Masks that change while flags are set: INT follows at once. */
 static void push_masks(unsigned c)
 {
@@ -370,9 +447,9 @@ static void push_masks(unsigned c)
 static void push_read_back(unsigned c)
 {
     struct plan *pl = &plans[c];
-    unsigned sum = sum_of(pl);
+    const struct channel *ch = &part.ch[c];
     /* the rarer flags each time */
-    if (part.ch[c].chstatus & (RE | DAE | CLE) || one_in(3))
+    if (ch->chstatus & (RE | DAE | CLE) || one_in(3))
         push_masks(c);
     if (!one_in(4)) {
         if (int_pulled(&part) && one_in(2))
@@ -385,15 +462,18 @@ static void push_read_back(unsigned c)
         push_status_reads(c);
     if (pl->n <= 8 || one_in(4))
         push_bytecount_reads(c, pl->n + below(2));
-    if (one_in(2)) {
-        push_write(c, R_TRANSEL, one_in(2) ? 0 : below(pl->n + 1));
-        for (unsigned i = 0; i < sum && i < 12; i++)
-            push_read(c, R_DATA);
+    if (!one_in(3)) {
+        unsigned t = one_in(2) ? 0 : below(pl->n + 1);
+        unsigned left = left_of(configured(ch), start_of(ch, t));
+        push_write(c, R_TRANSEL, t);
+        push_data_reads(c, left < 16 ? left : 16);
     }
-    if (pl->full) {
+    if (one_in(8))
+        push_edge_of_now(c);
+    if (pl->full) {     /* an X between would leave the rest no. 5 */
+        pl->together = 1;
         push_write(c, R_TRANSEL, 0);
-        for (unsigned i = 0; i <= sum; i++)
-            push_read(c, R_DATA);
+        push_data_reads(c, configured(ch) + 1);
     }
 }
 
@@ -401,22 +481,28 @@ static void push_read_back(unsigned c)
 
 static void plan_frame(unsigned c)
 {
-    struct plan *pl = &plans[c];
-    unsigned sum;
-    push_tables(c);
+    const struct plan *pl = &plans[c];
+    unsigned place = push_tables(c), left;
     push_manner(c);
     if (one_in(3)) {
-        push_write(c, R_TRANSEL, below(pl->n + 1));
-        if (one_in(3))
-            push_write(c, R_TRANOFS, below(pl->n ? pl->len[0] + 2u : 2u));
+        unsigned t = below(pl->n + 1);
+        push_write(c, R_TRANSEL, t);
+        place = sum_before(pl->len, t);
+        if (one_in(3)) {
+            unsigned offset = below(pl->n ? pl->len[0] + 2u : 2u);
+            push_write(c, R_TRANOFS, offset);
+            place += offset;
+        }
     }
-    sum = sum_of(pl);
+    left = left_of(sum_of(pl), place);
     if (pl->full)
-        push_data(c, sum + 1);
-    else if (sum > 3000)
+        push_data(c, left + 1);
+    else if (left > 300)
         push_data(c, below(20));
     else
-        push_data(c, one_in(3) ? below(4) : sum);
+        push_data(c, one_in(3) && left > 4 ? below(4) : left);
+    if (pl->whole)      /* nobody else reads it meanwhile */
+        push_read_at(c, R_CTRLSTATUS);
     push_start(c);
 }
 
@@ -471,7 +557,7 @@ static void plan_exact(unsigned c)
     struct plan *pl = &plans[c];
     int fits = !one_in(3);
     fill_exactly(pl, fits ? BUFFER : BUFFER + 1);
-    pl->whole = fits && one_in(6);
+    pl->whole = fits && one_in(is_ufm(c) ? 3 : 6);
     pl->full = pl->whole && one_in(3);
     if (pl->whole) {
         skip_none(pl);
@@ -497,8 +583,7 @@ static void plan_grow(unsigned c)
     pl->budget = between(40, 80);
     pl->framecnt = one_in(2) ? 0 : (uint8_t)between(2, 4);
     push_tables(c);
-    push_write(c, R_CONTROL, AIPTRRST);
-    push_write(c, R_TRANCONFIG, 2);
+    push_count(c, 2);
     push_manner(c);
     push_start(c);
 }
@@ -580,16 +665,21 @@ static void plan_count_zero(unsigned c)
     plan_frame(c);
 }
 
-/* The buffer's end: 4,335 + 16, 4,351, 4,352 */
+/* The buffer's end: 4,335 + 16, 4,351, 4,352; the sum is above it, at it or
+ * below it */
 static void plan_data_edge(unsigned c)
 {
     struct plan *pl = &plans[c];
-    fill(pl, 17, 0);
+    fill(pl, 18, 0);
     memset(pl->len, 255, sizeof pl->len);
-    push_tables(c);
-    push_write(c, R_TRANSEL, 17);
     if (one_in(2))
-        push_data(c, between(15, 19));
+        pl->len[17] = (uint8_t)(one_in(2) ? 17 : between(15, 18));
+    push_tables(c);
+    if (one_in(8))
+        push_count(c, 17);
+    push_write(c, R_TRANSEL, 17);
+    if (!one_in(4))
+        push_data(c, between(16, 19));
     push_write(c, R_TRANOFS, between(14, 18));
     push_data(c, between(0, 3));
     if (one_in(2))
@@ -608,6 +698,63 @@ static void plan_data_edge(unsigned c)
     push_read_at(c, R_CTRLSTATUS);
 }
 
+/* One transaction, so that DATA has as many bytes */
+static void push_room(unsigned c, unsigned bytes)
+{
+    push_write(c, R_TRANSEL, 0);
+    push_count(c, 1);
+    push_write(c, R_TRANCONFIG, bytes);
+}
+
+/* A length that comes late: until then DATA's pointer stands at the sum or past
+ * it, and with no AIPTRRST between it is there still. */
+static void push_late_length(unsigned c)
+{
+    unsigned sum = below(4);
+    push_room(c, 8);
+    push_write(c, R_TRANCONFIG, 0);
+    push_write(c, R_TRANCONFIG, between(1, 3));
+    push_data(c, 8);
+    if (one_in(3))
+        push_write(c, R_TRANOFS, between(1, 7));
+    push_count(c, 2);
+    push_write(c, R_TRANCONFIG, sum);
+    switch (below(4)) {
+    case 0:  push_write(c, R_TRANOFS, sum + below(4)); break;
+    case 1:  push_write(c, R_TRANSEL, between(2, 3)); break;
+    default: break;
+    }
+    push_accesses(c, sum + below(3));
+    push_write(c, R_TRANCONFIG, between(1, 8 - sum));
+    push_data_reads(c, between(1, 2));
+}
+
+/* The sum's edge, below the buffer's end and with lengths behind the count;
+ * the places past it are configured afterwards. */
+static void plan_sum_edge(unsigned c)
+{
+    struct plan *pl = &plans[c];
+    unsigned behind = one_in(3) ? 0 : between(1, 4), sum;
+    fill(pl, (one_in(8) ? 0 : between(1, 5)) + behind, one_in(6) ? 255 : 5);
+    push_late_length(c);
+    push_tables(c);
+    pl->n -= behind;
+    sum = sum_of(pl);
+    push_count(c, pl->n);
+    for (unsigned i = between(1, 4); i > 0; i--)
+        push_edge(c, pl->len, pl->n + behind, sum);
+    if (sum < 40) {     /* the pointer runs there by itself */
+        push_write(c, R_TRANSEL, 0);
+        push_accesses(c, sum + below(3));
+    }
+    push_count(c, pl->n + behind);
+    push_data_reads(c, between(1, 2));
+    if (one_in(2))
+        push_count(c, pl->n);
+    push_manner(c);
+    push_start(c);
+}
+
 /* TRANSEL first, lengths later: AIPTRRST and TRANOFS past the end */
 static void plan_pointer_past(unsigned c)
 {
@@ -620,15 +767,13 @@ static void plan_pointer_past(unsigned c)
         push_data(c, 2);
     for (unsigned t = 0; t < pl->n; t++)
         pl->len[t] = pl->n == ENTRIES ? (uint8_t)between(66, 72) : 255;
-    push_write(c, R_CONTROL, AIPTRRST);
-    push_write(c, R_TRANCONFIG, pl->n);
+    push_count(c, pl->n);
     for (unsigned t = 0; t < pl->n; t++)
         push_write(c, R_TRANCONFIG, pl->len[t]);
     push_read(c, R_DATA);
     push_manner(c);
     if (one_in(2)) {    /* a short frame runs meanwhile */
-        push_write(c, R_CONTROL, AIPTRRST);
-        push_write(c, R_TRANCONFIG, between(1, 3));
+        push_count(c, between(1, 3));
         push_start(c);
         pl->together = !one_in(4);
     }
@@ -783,10 +928,16 @@ static void push_second_5a(unsigned c)
     push_read(c, R_CHSTATUS);
 }
 
-/* INTMSK, a setting and ILL's flag are there before, and read afterwards. */
+/* INTMSK, a setting, some bytes and ILL's flag are there before, and read
+ * afterwards. */
 static void push_reset(unsigned c)
 {
     unsigned setting = between(R_SCLL, R_MODE);
+    unsigned bytes = one_in(4) ? between(1, 3) : 0;
+    if (bytes > 0) {
+        push_room(c, bytes);
+        push_data(c, bytes);
+    }
     push_write(c, R_INTMSK, between(0x10, 0xFF));
     push_write(c, setting, below(256));
     push_event(c, "ILL");
@@ -816,6 +967,10 @@ static void push_reset(unsigned c)
     push_read(c, setting);
     if (one_in(4))
         push_read_at(c, R_DEVICE_ID);
+    if (bytes > 0) {
+        push_room(c, bytes);
+        push_data_reads(c, bytes);
+    }
 }
 
 static void plan_reset(unsigned c)
@@ -882,9 +1037,11 @@ static void new_plan(unsigned c)
         plan_last(c);
     else if (k < 74)
         one_in(3) ? plan_frames(c) : plan_count_zero(c);
-    else if (k < 79)
+    else if (k < 78)
         plan_data_edge(c);
-    else if (k < 82)
+    else if (k < 81)
+        plan_sum_edge(c);
+    else if (k < 83)
         plan_pointer_past(c);
     else if (k < 86)
         plan_table_edge(c);
@@ -939,10 +1096,15 @@ static void push_side(unsigned c)
         push_read(c, R_INTMSK);
         break;
     case 6:
-        push_write(c, R_TRANSEL, one_in(4) ? below(256) : below(8));
+        push_write(c, R_TRANSEL, one_in(4) ? below(256)
+                                           : below(count_of(&part.ch[c]) + 1u));
         push_read(c, R_DATA);
         break;
     case 7:
+        if (one_in(2)) {
+            push_edge_of_now(c);
+            break;
+        }
         push_write(c, R_TRANOFS, one_in(4) ? below(256) : below(8));
         push_read(c, R_DATA);
         break;
@@ -996,11 +1158,11 @@ static void push_late(unsigned c)
 /* In Waiting, entry 0 can be written anew. */
 static void push_new_count(unsigned c)
 {
-    push_write(c, R_CONTROL, AIPTRRST);
-    push_write(c, R_TRANCONFIG, one_in(3) ? any_byte()
-                                          : below(plans[c].n + 2));
+    push_count(c, one_in(3) ? any_byte() : below(plans[c].n + 2));
     if (one_in(3))      /* no. 3: entry 1 */
         push_write(c, R_TRANCONFIG, 1);
+    if (one_in(2))      /* it counts at once */
+        push_read(c, R_DATA);
 }
 
 static void feed_waiting(unsigned c)
@@ -1015,8 +1177,7 @@ static void feed_waiting(unsigned c)
     }
     if (pl->grow) {
         pl->grow = 0;
-        push_write(c, R_CONTROL, AIPTRRST);
-        push_write(c, R_TRANCONFIG, pl->n);
+        push_count(c, pl->n);
         return;
     }
     if (one_in(12)) {
@@ -1300,6 +1461,11 @@ int main(int argc, char **argv)
         }
         if (per_mille(rate)) {
             noise();
+            continue;
+        }
+        /* BE pulls INT, and would hide what the channels do. */
+        if (part.be && one_in(6)) {
+            emit_text("R F0");
             continue;
         }
         if (one_in(burst) || plans[c].hold > 0)

@@ -3,12 +3,13 @@
  * sees the events that the channel answered 0, the actions, the two tables
  * and the buffer, and counts by these alone. After every step it compares.
  * One more, on the parallel bus, sees the lines and says which channels each
- * has to reset, and which are UFm. The last one has the flags and their masks
- * as rows, and says which channel is pending and whether INT is pulled.
+ * has to reset, and which are UFm. Another says what an access of DATA has to
+ * be answered. The last one has the flags and their masks as rows, and says
+ * which channel is pending and whether INT is pulled.
  *
  * model.c includes it before struct channel is known: it can't look at a
- * channel's phase, transaction, key or kind, and BYTECOUNT, STATUS and CHSTATUS
- * are handed to it to be compared.
+ * channel's phase, transaction, key or kind, and BYTECOUNT, STATUS, CHSTATUS
+ * and DATA's pointer are handed to it to be compared.
  */
 
 /* What it is told of a step: the bit of an event answered 0, and what no wire
@@ -191,6 +192,58 @@ static const char *const event_names[EVENTS] = {
 static unsigned long answered_seen[2][EVENTS], refused_seen[2][EVENTS],
     for_kind_seen[2][EVENTS];
 
+/* Accesses of DATA, by the channel's kind, read and written: where the pointer
+ * was, against the sum of the first count lengths. The last but one is of UFm
+ * only, the last of writes only. */
+enum {
+    DATA_LAST, DATA_4351,       /* answered 0 */
+    DATA_AT, DATA_PAST, DATA_COUNT_0, DATA_FULL, DATA_OVER, DATA_BEHIND,
+    DATA_SKIPPED, DATA_LOCKED, DATA_COUNTERS
+};
+
+static const char *const access_names[] = { "DATA-read", "DATA-write" };
+
+static const char *const data_names[DATA_COUNTERS] = {
+    [DATA_LAST] = "-just-below-the-sum",
+    [DATA_4351] = "-at-4351-of-more",
+    /* no. 5; the first two with a sum below 4,352 and a count above 0 */
+    [DATA_AT] = "-at-the-sum",
+    [DATA_PAST] = "-past-the-sum",
+    [DATA_COUNT_0] = "-with-count-0",
+    [DATA_FULL] = "-at-4352-of-4352",
+    [DATA_OVER] = "-at-4352-of-more",
+    /* of these, where lengths behind the count would have the place */
+    [DATA_BEHIND] = "-behind-the-count",
+    /* answered 0, a byte of a skipped one */
+    [DATA_SKIPPED] = "-of-skipped",
+    /* no. 3 where no. 5 would follow */
+    [DATA_LOCKED] = "-no-3-before-no-5"
+};
+
+static unsigned long data_seen[2][2][DATA_COUNTERS];
+
+/* Reads with no. 5, by the phase */
+enum { PHASES = WAITING + 1 };
+
+static const char *const phase_names[PHASES] = {
+    [IDLE] = "Idle", [ADDRESS] = "Address", [SENDING] = "Sending",
+    [RECEIVING] = "Receiving", [STOPPING] = "Stopping", [WAITING] = "Waiting"
+};
+
+static unsigned long refused_in_seen[2][PHASES];
+
+/* Answered 0, with DATA's pointer at or past the sum then */
+enum { BY_TRANSEL, BY_TRANOFS, BY_AIPTRRST, BY_AIPTRRST_STA, POINTERS };
+
+static const char *const pointer_names[POINTERS] = {
+    [BY_TRANSEL] = "TRANSEL",
+    [BY_TRANOFS] = "TRANOFS",
+    [BY_AIPTRRST] = "AIPTRRST",
+    [BY_AIPTRRST_STA] = "AIPTRRST-and-STA"   /* which begins a frame */
+};
+
+static unsigned long at_sum_seen[2][POINTERS], past_sum_seen[2][POINTERS];
+
 /* A flag beside its mask bit, as the data sheet's tables have them. */
 struct row {
     const char *name;
@@ -264,11 +317,31 @@ static void print_events_seen(const char *of, int ufm)
     }
 }
 
+/* A UFm channel never receives. */
+static void print_data_seen(const char *of, int ufm)
+{
+    for (unsigned write = 0; write < 2; write++)
+        for (unsigned i = 0; i < DATA_COUNTERS; i++)
+            if ((i != DATA_SKIPPED || ufm) && (i != DATA_LOCKED || write))
+                print_one(of, access_names[write], data_names[i],
+                          data_seen[ufm][write][i]);
+    for (unsigned i = 0; i < PHASES; i++)
+        if (i != RECEIVING || !ufm)
+            print_one(of, "DATA-read-refused-in-", phase_names[i],
+                      refused_in_seen[ufm][i]);
+    for (unsigned i = 0; i < POINTERS; i++) {
+        print_one(of, pointer_names[i], "-at-the-sum", at_sum_seen[ufm][i]);
+        print_one(of, pointer_names[i], "-past-the-sum",
+                  past_sum_seen[ufm][i]);
+    }
+}
+
 static void print_kind_seen(const char *of, int ufm)
 {
     print_frames_seen(of, ufm);
     print_rows_seen(of, ufm);
     print_events_seen(of, ufm);
+    print_data_seen(of, ufm);
 }
 
 static void print_seen(void)
@@ -538,8 +611,8 @@ static const char *log_step(struct logger *log, const struct sight *s)
 /* What it sees of a line: the first letter, or '?' where it can't be read */
 struct line {
     char kind;
-    uint8_t address, value;     /* of a write */
-    uint8_t refused;
+    uint8_t address, value;     /* of a read or a write; of a write */
+    uint8_t code;               /* the answer's number */
     uint8_t number;             /* of an X: 9669 follows */
 };
 
@@ -582,12 +655,12 @@ static unsigned lost_to(unsigned pending, const struct line *l)
     if (a == R_CTRLPRESET && key)
         return l->value == 0xA5 ? TO_CTRLPRESET_A5 : TO_CTRLPRESET_5A;
     if (a >= 0xF0)
-        return l->refused ? TO_READ_ONLY : TO_PART;
+        return l->code ? TO_READ_ONLY : TO_PART;
     if (own)
         return TO_OWN_CHANNEL;
     if (key)
         return l->value == 0xA5 ? TO_PRESET_A5 : TO_PRESET_5A;
-    return l->refused ? TO_REFUSED : TO_CHANNEL;
+    return l->code ? TO_REFUSED : TO_CHANNEL;
 }
 
 /* "Channels 1 and 2 are Ultra Fast-mode" on a PCU9669. */
@@ -667,6 +740,130 @@ static void log_part(const struct bus *bus, const struct logger *logs)
     part_seen[bus->ultra ? ON_9669 : ON_9663]++;
     part_seen[BOTH_KINDS] += bus->ultra && logs[0].running
         && (logs[1].running || logs[2].running);
+}
+
+/* ---- DATA and its pointer ---------------------------------------------- */
+
+/* What it sees of a line at one of a channel's registers */
+struct access {
+    const struct line *line;
+    const struct sight *sight;
+    unsigned from, to;          /* DATA's pointer, before the line and after */
+    const uint8_t *buffer;      /* before it; the sight's is after */
+    uint8_t value;              /* the answer's */
+    uint8_t be;                 /* after */
+    uint8_t phase;              /* for the counters only */
+};
+
+static int at_register_of(const struct line *l, unsigned c)
+{
+    return (l->kind == 'R' || l->kind == 'W') && l->address >= 0xC0
+        && channel_at(l->address) == c;
+}
+
+/* The one of the first n transactions that this place is a byte of, or n where
+ * it is behind them all */
+static unsigned logged_at(const uint8_t *tranconfig, unsigned n, unsigned place)
+{
+    unsigned t = 0;
+    while (t < n && place >= tranconfig[1 + t])
+        place -= tranconfig[1 + t++];
+    return t;
+}
+
+static int logged_configured(const struct access *a)
+{
+    const uint8_t *tc = a->sight->tranconfig;
+    return a->from < BUFFER && logged_at(tc, tc[0], a->from) < tc[0];
+}
+
+static unsigned of_refused(unsigned n, unsigned sum, unsigned place)
+{
+    if (n == 0)
+        return DATA_COUNT_0;
+    if (sum >= BUFFER)
+        return sum == BUFFER ? DATA_FULL : DATA_OVER;
+    return place == sum ? DATA_AT : DATA_PAST;
+}
+
+static void count_data(const struct access *a, int write, unsigned due)
+{
+    const struct sight *s = a->sight;
+    const uint8_t *tc = s->tranconfig;
+    unsigned n = tc[0], sum = logged_sum(tc, n), place = a->from;
+    unsigned long *counters = data_seen[s->ufm][write];
+    switch (due) {
+    case 0:
+        counters[DATA_LAST] += place + 1 == sum;
+        counters[DATA_4351] += place + 1 == BUFFER && sum > BUFFER;
+        counters[DATA_SKIPPED] += s->slatable[logged_at(tc, n, place)] & 1;
+        break;
+    case 3:
+        counters[DATA_LOCKED] += !logged_configured(a);
+        break;
+    default:
+        counters[of_refused(n, sum, place)]++;
+        counters[DATA_BEHIND] += place < BUFFER
+            && logged_at(tc, ENTRIES, place) < ENTRIES;
+        refused_in_seen[s->ufm][a->phase] += !write;
+        break;
+    }
+}
+
+/* Every byte but the one at this place is as before. */
+static int others_stay(const struct access *a, unsigned place)
+{
+    const uint8_t *before = a->buffer, *after = a->sight->buffer;
+    return memcmp(before, after, place) == 0
+        && (place == BUFFER || memcmp(before + place + 1, after + place + 1,
+                                      BUFFER - place - 1) == 0);
+}
+
+/* "A DATA access at or past the sum of the first count lengths now gets no. 5,
+ *  sets BE, leaves pointer and byte": where the place is no byte of any of the
+ * first count transactions. "DATA at 4,352: no. 5". A write on an active
+ * channel is no. 3 first. */
+static const char *log_data_access(const struct access *a)
+{
+    const struct line *l = a->line;
+    int write = l->kind == 'W';
+    unsigned due = write && a->sight->control & STA ? 3
+        : logged_configured(a) ? 0 : 5;
+    int written = write && due == 0;
+    count_data(a, write, due);
+    if (l->code != due || a->to != a->from + (due == 0)
+        || (due == 5 && !a->be)
+        || !others_stay(a, written ? a->from : BUFFER)
+        || (written && a->sight->buffer[a->from] != l->value)
+        || (!write && due == 0 && a->buffer[a->from] != a->value))
+        return "data";
+    return NULL;
+}
+
+/* "TRANSEL and TRANOFS keep the 4,352 limit.", and AIPTRRST too */
+static void count_pointer(const struct access *a, unsigned by)
+{
+    unsigned sum = logged_sum(a->sight->tranconfig, a->sight->tranconfig[0]);
+    at_sum_seen[a->sight->ufm][by] += a->to == sum;
+    past_sum_seen[a->sight->ufm][by] += a->to > sum;
+}
+
+static const char *log_access(const struct access *a)
+{
+    const struct line *l = a->line;
+    unsigned reg = l->address % 16;
+    if (reg == R_DATA)
+        return log_data_access(a);
+    if (l->kind == 'R' || l->code != 0)
+        return NULL;
+    if (reg == R_TRANSEL)
+        count_pointer(a, BY_TRANSEL);
+    if (reg == R_TRANOFS)
+        count_pointer(a, BY_TRANOFS);
+    if (reg == R_CONTROL && l->value & AIPTRRST)
+        count_pointer(a, a->sight->told & TOLD_BEGIN ? BY_AIPTRRST_STA
+                                                     : BY_AIPTRRST);
+    return NULL;
 }
 
 /* ---- The masks, row by row --------------------------------------------- */

@@ -282,6 +282,12 @@ static unsigned start_of(const struct channel *ch, unsigned v)
     return sum;
 }
 
+/* "the sum of the first count lengths", as they are at this moment */
+static unsigned configured(const struct channel *ch)
+{
+    return start_of(ch, count_of(ch));
+}
+
 /* ---- The range rule (refusal 9), called in the debug mode only --------- */
 
 #ifdef CHECK
@@ -329,7 +335,7 @@ static int frame_in_range(const struct channel *ch)
         return t == 0 && ch->tran_start == 0;
     /* "a frame in Address, Sending or Receiving whose lengths sum above
      *  4,352" */
-    if (start_of(ch, count_of(ch)) > BUFFER)
+    if (configured(ch) > BUFFER)
         return 0;
     /* "whose transaction is a skipped one or doesn't exist"; so Receiving on a
      * UFm channel is out of range */
@@ -453,10 +459,18 @@ static int write_tranconfig(struct channel *ch, uint8_t value)
     return write_table(ch->tranconfig, ENTRIES + 1, &ch->tc_ptr, value);
 }
 
-/* "DATA uses its own pointer." "DATA at 4,352: no. 5, pointer stays." */
+/* "DATA uses its own pointer." "DATA at 4,352: no. 5, pointer stays." "A DATA
+ *  access at or past the sum of the first count lengths now gets no. 5, sets
+ *  BE, leaves pointer and byte": a read or a write. With a sum above 4,352 both
+ * limits hold. */
+static int has_data(const struct channel *ch)
+{
+    return ch->data_ptr < configured(ch) && ch->data_ptr < BUFFER;
+}
+
 static int read_data(struct channel *ch, const uint8_t *buf, uint8_t *value)
 {
-    if (ch->data_ptr >= BUFFER)
+    if (!has_data(ch))
         return BOUNDARY;
     *value = buf[ch->data_ptr++];
     return OK;
@@ -466,7 +480,7 @@ static int write_data(struct channel *ch, uint8_t *buf, uint8_t value)
 {
     if (is_active(ch))
         return CHANNEL_ACTIVE;
-    if (ch->data_ptr >= BUFFER)
+    if (!has_data(ch))
         return BOUNDARY;
     buf[ch->data_ptr++] = value;
     return OK;
@@ -474,7 +488,8 @@ static int write_data(struct channel *ch, uint8_t *buf, uint8_t value)
 
 /* "Writing TRANSEL v stores it, zeroes TRANOFS (h) and points at the start"
  * "No. 5 where v is above 63 or the place is 4,352 or more: both registers and
- *  the pointer stay." */
+ *  the pointer stay." "TRANSEL and TRANOFS keep the 4,352 limit.", and so does
+ * AIPTRRST, which is no DATA access: the pointer may stand past the sum. */
 static int write_transel(struct channel *ch, uint8_t v)
 {
     unsigned place;
@@ -737,7 +752,7 @@ static int begin_frame(struct channel *ch, struct action *act)
     }
     /* "Lengths of the first count transactions summing above 4,352: no. 5, go
      *  Idle." */
-    if (start_of(ch, count_of(ch)) > BUFFER) {
+    if (configured(ch) > BUFFER) {
         go_idle(ch);
         return BOUNDARY;
     }
@@ -1258,19 +1273,18 @@ static unsigned refused_for_kind(const struct channel *ch)
     return events;
 }
 
-/* What the logger on the bus makes of the line: bit c for channel c */
-static unsigned resets_due(struct bus *bus, const uint8_t *s, size_t n,
-                           const struct answer *a)
+/* What the loggers see of the line */
+static struct line line_of(const uint8_t *s, size_t n, const struct answer *a)
 {
-    struct line l = { '?', 0, 0, a->code != OK, 0 };
+    struct line l = { '?', 0, 0, a->code, 0 };
     if (a->code != UNREADABLE)
         l.kind = (char)s[0];
-    if (l.kind == 'W') {
+    if (l.kind == 'R' || l.kind == 'W')
         l.address = (uint8_t)hex_byte(s + 2);
+    if (l.kind == 'W')
         l.value = (uint8_t)hex_byte(s + 5);
-    }
     l.number = l.kind == 'X' && n > 1;
-    return log_line(bus, &l);
+    return l;
 }
 
 static struct levels levels_of(const struct part *p, const struct bus *bus)
@@ -1284,12 +1298,24 @@ static struct levels levels_of(const struct part *p, const struct bus *bus)
     return l;
 }
 
-static void check_wires(struct part *p, const uint8_t *s, size_t n,
-                        const struct answer *a)
+static const char *check_access(struct part *before, const struct part *p,
+                                unsigned c, const struct line *line,
+                                const struct sight *sight, uint8_t value)
+{
+    struct access access = {
+        line, sight, before->ch[c].data_ptr, p->ch[c].data_ptr,
+        buffer_of(before, c), value, p->be, before->ch[c].phase
+    };
+    return at_register_of(line, c) ? log_access(&access) : NULL;
+}
+
+static void check_wires(struct part *before, struct part *p, const uint8_t *s,
+                        size_t n, const struct answer *a)
 {
     static struct logger loggers[CHANNELS];
     static struct bus bus;
-    unsigned due = resets_due(&bus, s, n, a);
+    struct line line = line_of(s, n, a);
+    unsigned due = log_line(&bus, &line);
     struct levels levels = levels_of(p, &bus);
     for (unsigned c = 0; c < CHANNELS; c++) {
         const struct channel *ch = &p->ch[c];
@@ -1301,6 +1327,8 @@ static void check_wires(struct part *p, const uint8_t *s, size_t n,
         const char *broken = log_step(&loggers[c], &sight);
         if (broken == NULL && loggers[c].running && !awaits_counted(ch))
             broken = "hang";
+        if (broken == NULL)
+            broken = check_access(before, p, c, &line, &sight, a->value);
         if (!(ch->told & TOLD_RESET) != !(due & 1u << c))
             broken = "reset";
         if (log_pending(&levels, c) != (levels.ctrlstatus >> c & 1))
@@ -1330,7 +1358,7 @@ static struct answer run_step(struct part *p, const uint8_t *s, size_t n)
     before = *p;
     a = run_line(p, s, n);
     check_step(&before, p, &a);
-    check_wires(p, s, n, &a);
+    check_wires(&before, p, s, n, &a);
     return a;
 #else
     return run_line(p, s, n);
