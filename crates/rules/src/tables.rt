@@ -39,20 +39,21 @@ pub fn fits(lens: &[u8; 65]) -> bool
     start_of(lens, count as usize) <= BUFFER
 }
 
-// Whether a place lies below the sum of the first count lengths. It looks at no more lengths than must be summed to get past the place.
+// Whether a place lies below the sum of the first count lengths, which are taken from it one by one: none is looked at behind the one that tells.
 pub(crate) fn configured(lens: &[u8; 65], at: usize) -> bool
     requires { ⌜ getD (now lens) 0 0 ≤ 64 ⌝ }
     ensures { λ r. ⌜ r ≡ configuredAt (now (lens .entry)) at ⌝ }
 {
     let count = byte(lens[0]);
-    let mut end: usize = 0;
+    let mut left = at;
     let mut i: usize = 0;
     while i < count {
-        i += 1;
-        end += byte(lens[i]);
-        if at < end {
+        let len = byte(lens[i + 1]);
+        if left < len {
             return true;
         }
+        left -= len;
+        i += 1;
     }
     false
 }

@@ -87,17 +87,21 @@ start-next l i n h =
     let g = start-add l (i + 1) (n - (i + 1)) in
     rw (start-more l i _ _ refl refl) (rw e g)
 
--- ---- configuredAt: a place below the sum so far, and one at or past the sum of all
-start-grows : (l : List ℕ) (i n : ℕ) → i ≤ n → startOf l i ≤ startOf l n
-start-grows l i n h = let e : n ≡ i + (n - i) = omega arith in rw e (start-add l i (n - i))
+-- ---- configuredAt, of a place that lies x behind the start of transaction i, the next one that is looked at
+pub behind-none : (l : List ℕ) (at : ℕ) → startOf l 0 + at ≡ at
+unfolding startOf
+behind-none l at = omega arith
 
-pub passed : (l : List ℕ) (at i n s : ℕ) → n ≡ getD l 0 0 → s ≡ startOf l i → i ≤ n → at < s → true ≡ configuredAt l at
+pub within : (l : List ℕ) (at i n x len : ℕ) → n ≡ getD l 0 0 → startOf l i + x ≡ at → len ≡ getD l (i + 1) 0 → i < n → x < len → true ≡ configuredAt l at
 unfolding configuredAt
-passed l at i n s c e h k = let g = start-grows l i n h in rw (← c) (sym (lt-ltb at (startOf l n) (omega arith)))
+within l at i n x len c e q h k = let g = start-next l i n h in rw (← c) (sym (lt-ltb at (startOf l n) (omega arith)))
 
-pub not-passed : (l : List ℕ) (at i n s : ℕ) → n ≡ getD l 0 0 → s ≡ startOf l i → i ≤ n → n ≤ i → s ≤ at → false ≡ configuredAt l at
+pub behind : (l : List ℕ) (at i x len : ℕ) → startOf l i + x ≡ at → len ≡ getD l (i + 1) 0 → len ≤ x → startOf l (i + 1) + (x - len) ≡ at
+behind l at i x len e q k = let g = start-more l i _ len refl q in omega arith
+
+pub behind-all : (l : List ℕ) (at i n x : ℕ) → n ≡ getD l 0 0 → startOf l i + x ≡ at → i ≤ n → n ≤ i → false ≡ configuredAt l at
 unfolding configuredAt
-not-passed l at i n s c e h k g = let q = start-end l i n s e h k in rw (← c, ← q) (sym (le-ltb at s g))
+behind-all l at i n x c e h k = let q : i ≡ n = omega arith in rw (← c, ← q) (sym (le-ltb at (startOf l i) (omega arith)))
 
 -- ---- the transaction that firstSent finds is not skipped
 sent-from : (c : Kind) (s l : List ℕ) (i left : ℕ) → i ≤ sentFrom c s l i left
