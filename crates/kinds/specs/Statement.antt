@@ -14,7 +14,6 @@ use Rattle.rules.specs.declared.registers.Register.{Register}
 use Rattle.rules.specs.declared.registers.Register.the-variants.{Status, Control, Chstatus, Intmsk, Slatable, Tranconfig, Data, Transel, Tranofs, Bytecount, Setting, Preset}
 use Rattle.rules.specs.Parts.{heeded}
 use Rattle.rules.specs.Registers.{placeOf}
-use Rattle.steps.specs.declared.map.Op.{Op}
 use Rattle.steps.specs.declared.map.Op.the-variants.{Write as WriteOp, Read as ReadOp, Wire as WireOp}
 use Rattle.steps.specs.declared.map.Step.{Step}
 use Rattle.steps.specs.declared.map.Step.the-variants.{Write, Read, Wire, Trigger, Reset}

@@ -1,6 +1,5 @@
 -- `bounds::kinds_in` meets its contract.
 use Rattle.laws.specs.Pick.{if_then_else_}
-use Rattle.laws.specs.Cases.{cases}
 use Rattle.bounds.specs.Range.{kindsIn}
 use borrow.Author.Needs.{needs}
 use Rattle.bounds.proofs.kinds_in.Statement.{statement}

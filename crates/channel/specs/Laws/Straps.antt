@@ -1,12 +1,11 @@
 -- No step of a channel changes what the hardware reset chose of it; and a UFm channel to which nobody ever answered stays so.
-use mathlib.Core.Bool.{Bool, true, false}
+use mathlib.Core.Bool.{Bool}
 use mathlib.Core.List.{List, [], _∷_}
 use mathlib.Core.Path.{_≡_, refl, _∙_, ap}
 use Prim.Native.Nat.{ℕ, zero, suc, _+_, _-_, _<_}
 use native.Mathlib.Omega.{arith}
 use lib.Dec.{eqb, ltb}
-use lib.ListN.{getD, set, replicate}
-use Rattle.laws.specs.Pick.{if_then_else_}
+use lib.ListN.{set, replicate}
 use Rattle.laws.specs.Cases.{pick-holds}
 use Rattle.rules.specs.declared.parts.Kind.{Kind}
 use Rattle.rules.specs.declared.parts.Kind.the-variants.{Fm, Ufm}
@@ -19,9 +18,9 @@ use Rattle.rules.specs.declared.registers.Register.the-variants.{Status, Contro
 use Rattle.rules.specs.declared.registers.Place.{Place}
 use Rattle.rules.specs.declared.registers.Place.the-variants.{Here, Elsewhere}
 use Rattle.rules.specs.Numbers.{done, doneStatus}
-use Rattle.rules.specs.Access.{overrunOf, presetOf, resetsOf}
+use Rattle.rules.specs.Access.{presetOf, resetsOf}
 use Rattle.rules.specs.Registers.{commandOf, placeOf}
-use Rattle.rules.specs.Tables.{fitting, readsOf, firstSent, markFrom, marked}
+use Rattle.rules.specs.Tables.{readsOf, markFrom}
 use Rattle.rules.specs.declared.wires.Action.{Action}
 use Rattle.rules.specs.declared.wires.Event.{Event}
 use Rattle.rules.specs.declared.wires.Edge.{Edge}
@@ -40,17 +39,17 @@ use Rattle.sequence.specs.declared.wires.Next.{Next}
 use Rattle.sequence.specs.declared.wires.Next.the-variants.{Cut, More, Over}
 use Rattle.sequence.specs.declared.wires.Tail.{Tail}
 use Rattle.sequence.specs.declared.wires.Turn.{Turn}
-use Rattle.sequence.specs.Wires.{askOf, beginningOf, maskedOf, nextOf, edgeBeat}
+use Rattle.sequence.specs.Wires.{maskedOf}
 use Rattle.sequence.specs.Walk.{noFlags, lateFlags, endFlags, faultFlags}
 use Rattle.sequence.specs.Laws.Meeting.{Meeting, meeting}
 use Rattle.sequence.specs.Laws.Meeting.Meeting.{unawaited, ack-address, ack-sending, receive, nack-address, nack-sending, begin, late, end, sda, scl, ill}
 use Rattle.steps.specs.declared.map.Op.{Op}
 use Rattle.steps.specs.declared.map.Op.the-variants.{Write, Read, Wire}
-use Rattle.head.specs.Access.{readRefusal, moded, pointed, dataPlace, teAfter, refusalOf}
-use Rattle.head.specs.Head.{framecntOf, kindOf, haltOf, femskOf, noted, frameEnded, stopped, clocked, failed}
+use Rattle.head.specs.Access.{moded, pointed, dataPlace}
+use Rattle.head.specs.Head.{framecntOf, kindOf, noted, frameEnded, stopped, clocked, failed}
 use Rattle.channel.specs.declared.state.Channel.{Channel}
 use Rattle.channel.specs.declared.state.Stepped.{Stepped}
-use Rattle.channel.specs.State.{Served, fresh, guarded, countOf, withHead}
+use Rattle.channel.specs.State.{Served, fresh, guarded, withHead}
 use Rattle.channel.specs.Access.{readBy, readOf, asked, controlled, writtenBy, writeOf, keyed, putOf}
 use Rattle.channel.specs.Step.{writeAt, readAt, eventAt, servedBy}
 use Rattle.channel.specs.Unanswered.{LowStatus, NoFault, Unanswered}

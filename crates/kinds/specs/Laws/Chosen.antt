@@ -1,11 +1,10 @@
 -- Which step chooses the part, and what is left of a part to whose UFm channels nobody ever answered.
-use Prim.Native.Nat.{ℕ, zero, suc, _<_}
+use Prim.Native.Nat.{ℕ, zero, suc}
 use mathlib.Core.Bool.{Bool, true, false}
 use mathlib.Core.List.{List}
 use mathlib.Core.Path.{_≡_, refl, sym, _∙_, ap}
 use native.Mathlib.Omega.{arith}
 use lib.ListN.{length}
-use Rattle.laws.specs.Pick.{if_then_else_}
 use Rattle.laws.specs.Cases.{pick-holds, false-not-true, both}
 use Rattle.rules.specs.declared.parts.Device.{Device}
 use Rattle.rules.specs.declared.parts.Kind.the-variants.{Fm, Ufm}
@@ -15,15 +14,11 @@ use Rattle.steps.specs.declared.map.Step.{Step}
 use Rattle.steps.specs.declared.map.Step.the-variants.{Write, Read, Wire, Trigger, Reset}
 use Rattle.steps.specs.declared.map.Target.{Target}
 use Rattle.steps.specs.declared.map.Target.the-variants.{One, All}
-use Rattle.steps.specs.declared.map.Wide.{Wide}
 use Rattle.steps.specs.declared.map.Wide.the-variants.{CtrlWrite, CtrlRead, AllTrigger, AllReset, Beyond}
-use Rattle.steps.specs.Keys.{opWrites, wideWrites}
 use Rattle.steps.specs.Map.{writeTarget, readTarget, wireTarget, targetOf}
 use Rattle.steps.specs.Laws.Keys.{left-of}
 use Rattle.head.specs.Head.{kindOf}
-use Rattle.channel.specs.declared.state.Channel.{Channel}
-use Rattle.channel.specs.Unanswered.{Unanswered}
-use Rattle.channel.specs.Laws.Straps.{Keeps, fresh-unanswered}
+use Rattle.channel.specs.Laws.Straps.{fresh-unanswered}
 use Rattle.part.specs.declared.state.Part.{Part}
 use Rattle.part.specs.declared.state.PartStepped.{PartStepped}
 use Rattle.part.specs.State.{chan, freshPart, deviceOf, forgotten}

@@ -1,11 +1,10 @@
 -- A step of one channel with another INTMSK: it does the same, and leaves that INTMSK; where the two differ in bits that are not heeded.
-use Prim.Native.Nat.{ℕ, _+_, _*_, _/_, _%_, _<_}
+use Prim.Native.Nat.{ℕ, _/_, _%_}
 use mathlib.Core.Bool.{Bool, true, false}
 use mathlib.Core.List.{List, []}
-use mathlib.Core.Path.{_≡_, refl, sym, _∙_, ap, subst}
+use mathlib.Core.Path.{_≡_, refl, sym, _∙_, ap}
 use native.Mathlib.Omega.{arith}
 use lib.Dec.{eqb, ltb}
-use lib.ListN.{getD}
 use Rattle.laws.specs.Pick.{if_then_else_}
 use Rattle.laws.specs.Cases.{false-not-true}
 use Rattle.rules.specs.declared.parts.Kind.{Kind}
@@ -17,7 +16,7 @@ use Rattle.rules.specs.declared.registers.Place.{Place}
 use Rattle.rules.specs.declared.registers.Place.the-variants.{Here, Elsewhere}
 use Rattle.rules.specs.declared.registers.Register.{Register}
 use Rattle.rules.specs.declared.registers.Register.the-variants.{Status, Control, Chstatus, Intmsk, Slatable, Tranconfig, Data, Transel, Tranofs, Bytecount, Setting, Preset}
-use Rattle.rules.specs.Access.{overrunOf, presetOf, resetsOf}
+use Rattle.rules.specs.Access.{presetOf, resetsOf}
 use Rattle.rules.specs.Numbers.{done, doneStatus}
 use Rattle.rules.specs.Parts.{heeded}
 use Rattle.rules.specs.Registers.{bitOf, femsk, commandOf, placeOf}
@@ -42,7 +41,7 @@ use Rattle.sequence.specs.Laws.Meeting.Meeting.{unawaited, ack-address, ack-sen
 use Rattle.steps.specs.declared.map.Op.{Op}
 use Rattle.steps.specs.declared.map.Op.the-variants.{Write, Read, Wire}
 use Rattle.steps.specs.declared.map.Target.the-variants.{One}
-use Rattle.head.specs.Access.{readRefusal, refusalOf, moded, pointed, dataPlace}
+use Rattle.head.specs.Access.{refusalOf, moded, pointed, dataPlace}
 use Rattle.head.specs.Head.{framecntOf, kindOf, turnAt, femskOf, maskTo, frameEnded, stopped, clocked, lateBy}
 use Rattle.head.specs.Range.{headIn}
 use Rattle.channel.specs.declared.state.Channel.{Channel}

@@ -1,14 +1,11 @@
 -- A step of two parts that are alike: its answers, what it leaves, and INT.
 use Prim.Native.Nat.{ℕ, zero, suc}
-use mathlib.Core.Bool.{Bool, true, false}
+use mathlib.Core.Bool.{Bool, false}
 use mathlib.Core.List.{List, [], _∷_, map}
-use mathlib.Core.Path.{_≡_, refl, sym, _∙_, ap, ap₂}
-use lib.Dec.{eqb}
+use mathlib.Core.Path.{_≡_, refl, sym, _∙_, ap}
 use lib.ListN.{length, getD, set}
-use Rattle.laws.specs.Pick.{if_then_else_}
-use Rattle.rules.specs.declared.parts.Kind.{Kind}
 use Rattle.rules.specs.Access.{keyAfter, resetsOf}
-use Rattle.rules.specs.Parts.{heeded, deviceBy, deviceId}
+use Rattle.rules.specs.Parts.{deviceBy, deviceId}
 use Rattle.rules.specs.Registers.{activeOf}
 use Rattle.rules.specs.declared.wires.Edge.{Edge}
 use Rattle.interrupt.specs.Interrupt.{beAfter, pendingOf}
@@ -27,15 +24,13 @@ use Rattle.steps.specs.Keys.{ctrlpresetOf, opWrites, wideWrites}
 use Rattle.steps.specs.Map.{targetOf}
 use Rattle.head.specs.Head.{kindOf}
 use Rattle.channel.specs.declared.state.Channel.{Channel}
-use Rattle.channel.specs.State.{Served}
-use Rattle.channel.specs.Step.{servedBy}
 use Rattle.channel.specs.Wires.{triggered}
 use Rattle.part.specs.declared.state.Part.{Part}
 use Rattle.part.specs.declared.state.PartStepped.{PartStepped}
 use Rattle.part.specs.State.{blank, chan, window, putWindow, deviceOf, keyless, forgotten, withKey}
 use Rattle.part.specs.Registers.{pendingAt, activeAt, interruptOf, ctrlstatusOf, ctrlRead, ctrlWritten, ctrlPut, ctrlStore}
-use Rattle.part.specs.Step.{edgeChannel, edgeAct, edgeBe, oneServed, oneStep, oneBytes, triggerStep, allServed, allStored, targetServed, targetStored}
-use Rattle.part.specs.Step.{forgetting, partServed, partStored, channelsIn, ownKinds, partIn, accepts, partStep, partBytes}
+use Rattle.part.specs.Step.{edgeChannel, edgeAct, edgeBe, oneStep, oneBytes, triggerStep, allServed, allStored, targetServed, targetStored}
+use Rattle.part.specs.Step.{forgetting, partServed, partStored, channelsIn, partIn, accepts, partStep, partBytes}
 use Rattle.kinds.specs.Statement.{remasked, Alike, AllAlike, AlikeParts, readsMask, SameAnswer}
 use Rattle.kinds.specs.Laws.Masks.{either, alike-same, served-alike, edge-alike, range-alike}
 

@@ -1,9 +1,8 @@
 -- An access or an event that does not write to PRESET is a work, by the channel's rules.
 use Prim.Native.Nat.{ℕ}
-use mathlib.Core.Bool.{Bool, true, false}
+use mathlib.Core.Bool.{false}
 use mathlib.Core.List.{[]}
-use mathlib.Core.Path.{_≡_, refl, ap}
-use Rattle.laws.specs.Pick.{if_then_else_}
+use mathlib.Core.Path.{_≡_, ap}
 use Rattle.steps.specs.declared.map.Op.{Op}
 use Rattle.steps.specs.declared.map.Target.the-variants.{One}
 use Rattle.steps.specs.Keys.{opWrites}

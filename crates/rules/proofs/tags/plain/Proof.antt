@@ -1,7 +1,6 @@
 -- `rules::tags::plain` meets its contract.
 use Rattle.laws.specs.Cases.{cases}
 use Rattle.rules.specs.Tags.{plainOf}
-use borrow.Author.Needs.{needs}
 use Rattle.rules.proofs.tags.plain.Statement.{statement}
 use Rattle.rules.proofs.tags.plain.Tie as tie
 

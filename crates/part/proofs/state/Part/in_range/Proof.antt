@@ -1,5 +1,5 @@
 -- `part::state::Part::in_range` meets its contract.
-use Rattle.laws.specs.Cases.{cases, flag-true, pick-true}
+use Rattle.laws.specs.Cases.{cases}
 use Rattle.part.specs.Step.{partIn}
 use borrow.Author.Needs.{needs}
 use Rattle.part.proofs.state.Part.in_range.Statement.{statement}
