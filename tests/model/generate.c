@@ -281,8 +281,9 @@ static void push_part_masks(unsigned c, unsigned causes)
         push_write_at(c, R_CTRLINTMSK, 0);
 }
 
-/* "Scripts must load TRANCONFIG before DATA." Gives DATA's place then, which
- * goes by the tables before. */
+/* "Scripts must load TRANCONFIG before DATA." Returns the place at which DATA
+ * stands afterwards: AIPTRRST comes before the new lengths, so the old ones
+ * give it. */
 static unsigned push_tables(unsigned c)
 {
     const struct plan *pl = &plans[c];
@@ -333,7 +334,7 @@ static void push_data_reads(unsigned c, unsigned bytes)
         push_read(c, R_DATA);
 }
 
-/* DATA read and written by turns of chance */
+/* DATA read or written, at random */
 static void push_accesses(unsigned c, unsigned n)
 {
     while (n-- > 0)
@@ -501,7 +502,7 @@ static void plan_frame(unsigned c)
         push_data(c, below(20));
     else
         push_data(c, one_in(3) && left > 4 ? below(4) : left);
-    if (pl->whole)      /* nobody else reads it meanwhile */
+    if (pl->whole)      /* else BE stays set while it runs */
         push_read_at(c, R_CTRLSTATUS);
     push_start(c);
 }

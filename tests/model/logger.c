@@ -8,8 +8,8 @@
  * which channel is pending and whether INT is pulled.
  *
  * model.c includes it before struct channel is known: it can't look at a
- * channel's phase, transaction, key or kind, and BYTECOUNT, STATUS, CHSTATUS
- * and DATA's pointer are handed to it to be compared.
+ * channel's transaction, key or kind. BYTECOUNT, STATUS, CHSTATUS and DATA's
+ * pointer are handed to it to be compared, the phase for counters only.
  */
 
 /* What it is told of a step: the bit of an event answered 0, and what no wire

@@ -59,7 +59,7 @@ selRefusal lens v = if ltb 63 v then pastBuffer else placeRefusal (startOf lens 
 unfoldable pub spotOf : List ℕ → ℕ → Spot
 spotOf lens at = if ltb at bufferSize then (if configuredAt lens at then At at else Outside) else Outside
 
--- DATA at 4,352: no. 5; and a DATA access at or past the sum of the first count lengths gets no. 5 (document 02, request Seven)
+-- DATA at 4,352, or at a place that is not configured: no. 5
 abbrev pub spotRefusal : Spot → ℕ
 spotRefusal (At i) = done
 spotRefusal Outside = pastBuffer

@@ -22,7 +22,7 @@ sumOf lens = startOf lens (getD lens 0 0)
 unfoldable pub fitting : List ℕ → Bool
 fitting lens = leb (sumOf lens) bufferSize
 
--- a place below that sum is configured: one at or past it is not, and lengths behind the count configure none (document 02, request Seven)
+-- a DATA access at or past that sum gets no. 5 (document 02, request Seven): a place is configured below it
 unfoldable pub configuredAt : List ℕ → ℕ → Bool
 configuredAt lens at = ltb at (sumOf lens)
 

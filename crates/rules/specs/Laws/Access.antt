@@ -4,11 +4,11 @@ use mathlib.Core.List.{List}
 use mathlib.Core.Path.{_≡_, refl, sym, _∙_}
 use Prim.Native.Nat.{ℕ, _<_, _≤_}
 use native.Mathlib.Omega.{arith}
-use borrow.Author.Tests.{ltb-true, ltb-false}
+use borrow.Author.Tests.{ltb-true, ltb-false, lt-ltb, le-ltb}
 use lib.Dec.{ltb}
-use Rattle.laws.specs.Cases.{not-refused, accepted, pick-holds}
+use Rattle.laws.specs.Cases.{not-refused, accepted, pick-true, pick-false, pick-holds}
 use Rattle.rules.specs.declared.access.Spot.{Spot}
-use Rattle.rules.specs.declared.access.Spot.the-variants.{At}
+use Rattle.rules.specs.declared.access.Spot.the-variants.{At, Outside}
 use Rattle.rules.specs.declared.state.Phase.{Phase}
 use Rattle.rules.specs.Numbers.{bufferSize, done, locked, pastTable, pastBuffer, manyTransactions}
 use Rattle.rules.specs.Registers.{activeOf}
@@ -42,19 +42,29 @@ pub sel-open : (lens : List ℕ) (v : ℕ) → selRefusal lens v ≡ 0 → (v �
 unfolding selRefusal
 sel-open lens v e = let r = not-refused _ pastBuffer _ (omega arith) e in (ltb-false 63 v (r .0), placed (startOf lens v) (r .1))
 
--- what is found is configured: the finder's promise, which whoever reads or writes there has from it
-pub below-sum : (lens : List ℕ) (at : ℕ) (b : Bool) → b ≡ configuredAt lens at → b ≡ true → at < sumOf lens
-unfolding configuredAt
-below-sum lens at b e t = ltb-true at (sumOf lens) (sym e ∙ t)
-
+-- what is found is configured: the finder promises it by this law, and whoever reads or writes there has it from here
 found : (lens : List ℕ) (at : ℕ) → Configured lens (spotOf lens at)
-unfolding spotOf
+unfolding spotOf configuredAt
 found lens at =
-    pick-holds (Configured lens) _
-    (λ t. pick-holds (Configured lens) _ (λ u. (ltb-true at bufferSize t, below-sum lens at _ refl u)) (λ _. tt))
-    (λ _. tt)
+    pick-holds (Configured lens) _ (λ t. pick-holds (Configured lens) _ (λ u. (ltb-true at bufferSize t, ltb-true at (sumOf lens) u)) (λ _. tt)) (λ _. tt)
 
--- and it is the place that was asked for
+finds : (lens : List ℕ) (at : ℕ) (s : Spot) → s ≡ spotOf lens at → (s ≡ spotOf lens at) × Configured lens s
+finds lens at s e = (e, rw e (found lens at))
+
+-- the finder's three ways
+pub past-all : (lens : List ℕ) (at : ℕ) → bufferSize ≤ at → (Outside ≡ spotOf lens at) × Configured lens Outside
+unfolding spotOf
+past-all lens at h = finds lens at Outside (pick-false _ _ _ _ (le-ltb at bufferSize h) refl)
+
+pub is-place : (lens : List ℕ) (at : ℕ) (b : Bool) → at < bufferSize → b ≡ configuredAt lens at → b ≡ true → (At at ≡ spotOf lens at) × Configured lens (At at)
+unfolding spotOf
+is-place lens at b h e t = finds lens at (At at) (pick-true _ _ _ _ (lt-ltb at bufferSize h) (pick-true _ _ _ _ (sym e ∙ t) refl))
+
+pub no-place : (lens : List ℕ) (at : ℕ) (b : Bool) → at < bufferSize → b ≡ configuredAt lens at → b ≡ false → (Outside ≡ spotOf lens at) × Configured lens Outside
+unfolding spotOf
+no-place lens at b h e t = finds lens at Outside (pick-true _ _ _ _ (lt-ltb at bufferSize h) (pick-false _ _ _ _ (sym e ∙ t) refl))
+
+-- a place that is not refused is the one that was asked for
 found-at : (lens : List ℕ) (at : ℕ) → spotRefusal (spotOf lens at) ≡ 0 → spotOf lens at ≡ At at
 unfolding spotOf
 found-at lens at e =
