@@ -5,50 +5,7 @@
  */
 #define MODEL_NO_MAIN
 #include "model.c"
-
-/* ---- Random numbers ---------------------------------------------------- */
-
-static uint64_t rng;
-
-static uint64_t next_random(void)
-{
-    uint64_t z = rng += 0x9E3779B97F4A7C15u;
-    z = (z ^ (z >> 30)) * 0xBF58476D1CE4E5B9u;
-    z = (z ^ (z >> 27)) * 0x94D049BB133111EBu;
-    return z ^ (z >> 31);
-}
-
-/* 0 to n - 1 */
-static unsigned below(unsigned n)
-{
-    return (unsigned)((next_random() >> 32) * n >> 32);
-}
-
-static unsigned between(unsigned low, unsigned high)
-{
-    return low + below(high - low + 1);
-}
-
-static int one_in(unsigned n)
-{
-    return below(n) == 0;
-}
-
-static int per_mille(unsigned n)
-{
-    return below(1000) < n;
-}
-
-static uint8_t any_byte(void)
-{
-    static const uint8_t liked[] = {
-        0x00, 0x01, 0x02, 0x08, 0x10, 0x11, 0x12, 0x20, 0x30, 0x3F, 0x40,
-        0x41, 0x42, 0x48, 0x58, 0x5A, 0x60, 0x80, 0xA0, 0xA5, 0xC0, 0xFE, 0xFF
-    };
-    if (one_in(2))
-        return (uint8_t)below(256);
-    return liked[below(sizeof liked)];
-}
+#include "random.c"
 
 /* A mask that tells a flag's row from the others: the bits that are set, all
  * but these, one, or all but one */
@@ -228,14 +185,7 @@ static void fill_exactly(struct plan *pl, unsigned sum)
         pl->len[17] = (uint8_t)(sum - 17 * 255);
         return;
     }
-    for (unsigned left = sum; left > 0;) {
-        unsigned t = below(pl->n), room = 255u - pl->len[t];
-        unsigned add = room < left ? room : left;
-        if (add > 1 && one_in(2))
-            add = between(1, add);
-        pl->len[t] = (uint8_t)(pl->len[t] + add);
-        left -= add;
-    }
+    spread(pl->len, pl->n, sum);
 }
 
 /* ---- Parts of a plan --------------------------------------------------- */
@@ -1446,7 +1396,7 @@ int main(int argc, char **argv)
     }
     seed = strtoull(argv[1], NULL, 10);
     wanted = strtoull(argv[2], NULL, 10);
-    rng = seed * 0xD1342543DE82EF95u + 1;
+    seed_random(seed);
     last_without_lf = (int)(seed % 2);
     rate = noises[seed % 5];
     burst = bursts[seed / 5 % 3];
