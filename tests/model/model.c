@@ -6,6 +6,7 @@
  *
  *   -DCHECK          after every step: in_range, what a refusal leaves, and
  *                    the loggers of logger.c; at the end, what they have seen
+ *   -DRANGE          has the range rule, which CHECK has too
  *   -DMODEL_NO_MAIN  leaves out the program, for inclusion elsewhere
  */
 #include <stdint.h>
@@ -85,6 +86,7 @@ enum event {
 /* TELL tells the channel's logger which event was answered 0 or not awaited,
  * and what it has to know and no wire shows. */
 #ifdef CHECK
+#define RANGE
 #include "logger.c"
 #define TELL(ch, what) ((ch)->told |= (what))
 #else
@@ -102,8 +104,7 @@ struct channel {
     uint8_t tran;               /* Address, Sending, Receiving only */
     uint8_t key;                /* A5h seen at PRESET */
     uint16_t tran_start;        /* start of tran, kept for speed */
-    uint16_t data_ptr;
-    uint8_t sla_ptr, tc_ptr, bc_ptr;
+    uint16_t data_ptr, sla_ptr, tc_ptr, bc_ptr;
     uint8_t chstatus, intmsk, transel, tranofs;
     uint8_t framecnt, refrate, scll, sclh, mode, timeout;
     uint8_t slatable[ENTRIES];
@@ -160,11 +161,13 @@ static int is_active(const struct channel *ch)
     return ch->phase != IDLE;
 }
 
-/* On a UFm channel "INTMSK bits 5 and 4 have no effect": they are stored and
- * mask nothing. */
+/* "DAE, CLE and SSE can't be masked", by a bit out of range either. On a UFm
+ * channel "INTMSK bits 5 and 4 have no effect": they are stored and mask
+ * nothing. */
 static unsigned effective_mask(const struct channel *ch)
 {
-    return ch->kind == UFM ? ch->intmsk & ~(unsigned)(WE | RE) : ch->intmsk;
+    unsigned bits = ch->kind == UFM ? INTMSK_BITS & ~(WE | RE) : INTMSK_BITS;
+    return ch->intmsk & bits;
 }
 
 /* "channel pending (some CHSTATUS bit set whose INTMSK bit is 0)" */
@@ -204,7 +207,12 @@ enum {
     BOUNDARY = 5,       /* buffer boundary; BE set */
     COUNT_ABOVE = 6,    /* TRANCONFIG entry 0 above 64 */
     NOT_AWAITED = 7,    /* an event not awaited */
-    UNREADABLE = 8      /* script line that can't be read */
+    UNREADABLE = 8,     /* script line that can't be read */
+    OUT_OF_RANGE = 9,   /* lent memory not 13,056 bytes, or a state out of
+                           range */
+    NOT_A_FILE = 10,    /* "(reading) for any other file or a byte after it" */
+    NO_ROOM = 11        /* "(writing) when the output buffer is shorter than
+                           the file or the lengths sum above 4,352" */
 };
 
 static struct action no_action(void)
@@ -288,9 +296,9 @@ static unsigned configured(const struct channel *ch)
     return start_of(ch, count_of(ch));
 }
 
-/* ---- The range rule (refusal 9), called in the debug mode only --------- */
+/* ---- The range rule (refusal 9): no script leads out of it ------------- */
 
-#ifdef CHECK
+#ifdef RANGE
 
 static int pointers_in_range(const struct channel *ch)
 {
@@ -360,18 +368,19 @@ static int frame_in_range(const struct channel *ch)
     return ch->tran_start == start_of(ch, t);
 }
 
+static int channel_in_range(const struct channel *ch)
+{
+    return pointers_in_range(ch) && registers_in_range(ch)
+        && ended_in_range(ch) && records_in_range(ch) && frame_in_range(ch);
+}
+
 static int in_range(const struct part *p)
 {
-    for (unsigned c = 0; c < CHANNELS; c++) {
-        const struct channel *ch = &p->ch[c];
-        /* A channel's kind that is not the part's own is out of range. */
-        if (ch->kind != kind_of(p->device, c))
+    /* A channel's kind that is not the part's own is out of range. */
+    for (unsigned c = 0; c < CHANNELS; c++)
+        if (p->ch[c].kind != kind_of(p->device, c)
+            || !channel_in_range(&p->ch[c]))
             return 0;
-        if (!pointers_in_range(ch) || !registers_in_range(ch)
-            || !ended_in_range(ch) || !records_in_range(ch)
-            || !frame_in_range(ch))
-            return 0;
-    }
     return (p->ctrlintmsk & ~CTRLINTMSK_BITS & 0xFF) == 0;
 }
 
@@ -384,14 +393,11 @@ static int leaves_all(const struct part *before, const struct part *after)
     a.key = b.key = 0;
     for (unsigned c = 0; c < CHANNELS; c++) {
         a.ch[c].key = b.ch[c].key = 0;
+#ifdef CHECK
         a.ch[c].told = b.ch[c].told = 0;
+#endif
     }
     return memcmp(&a, &b, sizeof a) == 0;
-}
-
-static unsigned told_of(enum event e, int code)
-{
-    return code == OK ? TOLD(e) : code == NOT_AWAITED ? REFUSED(e) : 0;
 }
 
 static _Noreturn void give_up(void)
@@ -420,10 +426,19 @@ static void check_step(const struct part *before, const struct part *after,
 
 #endif
 
+#ifdef CHECK
+
+static unsigned told_of(enum event e, int code)
+{
+    return code == OK ? TOLD(e) : code == NOT_AWAITED ? REFUSED(e) : 0;
+}
+
+#endif
+
 /* ---- Tables and DATA --------------------------------------------------- */
 
 /* "Table accesses, read or write, move that table's pointer by one." */
-static int read_table(const uint8_t *table, unsigned entries, uint8_t *ptr,
+static int read_table(const uint8_t *table, unsigned entries, uint16_t *ptr,
                       uint8_t *value)
 {
     if (*ptr >= entries)
@@ -432,7 +447,7 @@ static int read_table(const uint8_t *table, unsigned entries, uint8_t *ptr,
     return OK;
 }
 
-static int write_table(uint8_t *table, unsigned entries, uint8_t *ptr,
+static int write_table(uint8_t *table, unsigned entries, uint16_t *ptr,
                        uint8_t value)
 {
     if (*ptr >= entries)
