@@ -749,17 +749,27 @@ static void run_into_frame(unsigned c)
         feed(c);
 }
 
+/* One past the last place, one whose low byte is in range, or any */
+static unsigned pointer_out(unsigned last)
+{
+    switch (below(4)) {
+    case 0:  return (last / 256 + 1) * 256 + below(65);
+    case 1:  return between(last + 1, 65535);
+    default: return last + 1;
+    }
+}
+
 /* A value that is out of range in the channel as it is, for most fields */
 static unsigned value_out(unsigned c, enum field field)
 {
     const struct channel *ch = &part.ch[c];
     switch (field) {
     case F_SLATABLE_PTR: case F_BYTECOUNT_PTR:
-        return one_in(2) ? 65 : one_in(2) ? 256 + below(65) : between(66, 65535);
+        return pointer_out(ENTRIES);
     case F_TRANCONFIG_PTR:
-        return one_in(2) ? 66 : one_in(2) ? 256 + below(65) : between(66, 65535);
+        return pointer_out(ENTRIES + 1);
     case F_DATA_PTR:
-        return one_in(2) ? 4353 : between(4353, 65535);
+        return pointer_out(BUFFER);
     case F_COUNT:
         if (ch->phase >= ADDRESS && ch->phase <= RECEIVING && !one_in(4))
             return below(ch->tran + 1u);    /* its transaction is gone */
@@ -791,10 +801,12 @@ static void scene_out(void)
     };
     unsigned c = any_channel(), value;
     enum field field = fields[below(sizeof fields)];
-    if (one_in(4))
+    if (one_in(4)) {
         run_into_frame(c);
-    else if (!one_in(4))
+        field = one_in(2) ? F_COUNT : field;
+    } else if (!one_in(4)) {
         make_idle(c);
+    }
     if (one_in(6))      /* SSE, which no bit of INTMSK masks */
         event(c, "ILL");
     value = field_at(c, field);

@@ -2,7 +2,7 @@
  * Calls as rows of text; files.txt says how a row is written. Of such rows on
  * standard input, `rows calls` gives the calls in the form of calls.c, and
  * `rows want` the first five columns of the answers that they have to get, a
- * tab, and the row. Of calls there, `rows text` gives the rows, without answers.
+ * tab, and the row. Of calls there, `rows text` gives rows without answers.
  */
 #define CALLS_NO_MAIN
 #include "calls.c"
