@@ -7,5 +7,6 @@ mod wires;
 
 pub use state::Channel;
 pub use state::Stepped;
+pub use step::range_number;
 pub use step::serve_lent;
 pub use wires::trigger_lent;

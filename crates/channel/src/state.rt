@@ -37,7 +37,7 @@ impl Channel {
     }
 
     // The record with an answer's number and nothing else.
-    pub(crate) fn answer(self, number: u8) -> Stepped
+    pub fn answer(self, number: u8) -> Stepped
         ensures { λ r. ⌜ r ≡ on self (refused (self .head) number) ⌝ }
     {
         Stepped {

@@ -19,7 +19,7 @@ use rules::OUT_OF_RANGE;
 use steps::Op;
 
 // No. 9, or 0: of a memory of this length, and a record that is in range or not.
-fn range_number(len: usize, ok: bool) -> u8
+pub fn range_number(len: usize, ok: bool) -> u8
     ensures { λ r. ⌜ r ≡ rangeNumber len ok ⌝ }
 {
     if len == BUFFER {

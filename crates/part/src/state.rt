@@ -41,7 +41,7 @@ impl Part {
     }
 
     // The part with an answer's number and nothing else.
-    pub(crate) fn answer(self, number: u8) -> PartStepped
+    pub fn answer(self, number: u8) -> PartStepped
         ensures { λ r. ⌜ r ≡ refusedPart self number ⌝ }
     {
         PartStepped {

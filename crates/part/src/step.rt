@@ -63,7 +63,8 @@ impl Part {
         }
     }
 
-    fn accepts_len(self, len: usize) -> bool
+    // Whether no. 9 does not refuse the part with a memory of this length.
+    pub fn accepts_len(self, len: usize) -> bool
         ensures { λ r. ⌜ r ≡ accepts self len ⌝ }
     {
         if len == MEMORY {

@@ -8,12 +8,13 @@ use Rattle.rules.specs.declared.wires.Edge.{Edge}
 use Rattle.steps.specs.declared.map.Op.{Op}
 use Rattle.head.specs.declared.state.Head.{Head}
 use Rattle.head.specs.declared.state.Headed.{Headed}
+use Rattle.head.specs.State.{refused}
 use Rattle.channel.specs.declared.state.Channel.{Channel}
 use Rattle.channel.specs.declared.state.Stepped.{Stepped}
 use Rattle.channel.specs.Lent.{joined, rejoined}
 use Rattle.channel.specs.Range.{inRange}
-use Rattle.channel.specs.State.{fresh, leaving}
-use Rattle.channel.specs.Step.{servedBy, stepOf, bytesAfter}
+use Rattle.channel.specs.State.{fresh, on, leaving}
+use Rattle.channel.specs.Step.{servedBy, rangeNumber, stepOf, bytesAfter}
 use Rattle.channel.specs.Wires.{triggered}
 use Rattle.promises.specs.Promise.{Once, no-second, both}
 
@@ -25,7 +26,13 @@ in-range-once self = no-second (λ r h. h)
 pub new-once : (straps : Straps) → Once Channel (λ r. r ≡ fresh straps)
 new-once straps = no-second (λ r h. h)
 
+pub answer-once : (self : Channel) (number : ℕ) → Once Stepped (λ r. r ≡ on self (refused (self .head) number))
+answer-once self number = no-second (λ r h. h)
+
 -- ---- step.rt
+pub range-number-once : (len : ℕ) (ok : Bool) → Once ℕ (λ r. r ≡ rangeNumber len ok)
+range-number-once len ok = no-second (λ r h. h)
+
 -- what is told of the whole channel tells each part of it: the head, with the answer, and each table
 abbrev apart : Stepped → Headed × List ℕ × List ℕ × List ℕ × List ℕ
 apart s =

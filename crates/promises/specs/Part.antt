@@ -15,8 +15,8 @@ use Rattle.heads.specs.declared.OneStepped.{OneStepped}
 use Rattle.part.specs.declared.state.Part.{Part}
 use Rattle.part.specs.declared.state.PartStepped.{PartStepped}
 use Rattle.part.specs.Registers.{interruptOf}
-use Rattle.part.specs.State.{freshPart}
-use Rattle.part.specs.Step.{allServed, allStored, partIn, partStep, partBytes}
+use Rattle.part.specs.State.{freshPart, refusedPart}
+use Rattle.part.specs.Step.{accepts, allServed, allStored, partIn, partStep, partBytes}
 use Rattle.part.specs.Rows.{asRows, gathered, Holds, Gives, Pulls, OneGives}
 use Rattle.promises.specs.Promise.{Once, no-second, both}
 
@@ -63,7 +63,13 @@ one-once h k sla lens status counts mem c op =
 pub new-once : (d : Device) → Once Part (λ r. r ≡ freshPart d)
 new-once d = no-second (λ r h. h)
 
+pub answer-once : (self : Part) (number : ℕ) → Once PartStepped (λ r. r ≡ refusedPart self number)
+answer-once self number = no-second (λ r h. h)
+
 -- ---- step.rt
+pub accepts-len-once : (self : Part) (len : ℕ) → Once Bool (λ r. r ≡ accepts self len)
+accepts-len-once self len = no-second (λ r h. h)
+
 pub in-range-once : (self : Part) → Once Bool (λ r. r ≡ partIn self)
 in-range-once self = no-second (λ r h. h)
 

@@ -8,7 +8,7 @@ use lib.Seq.{sets}
 use Rattle.script.specs.Grammar.{lineRoom}
 use Rattle.runner.specs.declared.answering.Course.{Course}
 use Rattle.runner.specs.declared.lines.Start.{Start}
-use Rattle.runner.specs.Lines.{noLine, lengthened, keptOf}
+use Rattle.runner.specs.Lines.{noLine, lengthened, keptOf, lineEnd}
 use Rattle.runner.specs.Feeding.{Answered}
 use Rattle.promises.specs.Promise.{Once, no-second, both}
 
@@ -40,3 +40,6 @@ kept-once len = no-second (λ r h. h .0)
 pub put-start-once : (bytes : List ℕ) (n : ℕ) (block : List ℕ)
     → Once (ℕ × List ℕ) (λ (r, block′). (r ≡ lineRoom - n) × (block′ ≡ sets block r (take n bytes)) × (length (take n bytes) ≡ n))
 put-start-once bytes n block = no-second (λ o h. both (h .0) (h .1 ∙ ap (λ (at : ℕ). sets block at (take n bytes)) (h .0)))
+
+pub line-end-once : (block : List ℕ) (from : ℕ) → Once ℕ (λ r. r ≡ lineEnd block from)
+line-end-once block from = no-second (λ r h. h)

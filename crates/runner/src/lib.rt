@@ -7,5 +7,6 @@ pub use answering::answer_lines;
 pub use lines::Start;
 pub use lines::kept;
 pub use lines::lengthen;
+pub use lines::line_end;
 pub use lines::no_line;
 pub use lines::put_start;

@@ -67,7 +67,7 @@ pub fn put_start(bytes: [u8; LINE_ROOM], n: usize, block: &mut [u8]) -> usize
 }
 
 // The place of the first LF from a place on, or the block's end. Four bytes a turn, for speed, and then those that are left.
-pub(crate) fn line_end(block: &[u8], from: usize) -> usize
+pub fn line_end(block: &[u8], from: usize) -> usize
     requires { ⌜ from ≤ length (now block) ⌝ }
     ensures { λ r. ⌜ r ≡ lineEnd (now (block .entry)) from ⌝ }
 {

@@ -44,7 +44,7 @@ use Rattle.channel.specs.Facts.{Accepted}
 use Rattle.channel.specs.Laws.Frames.{In, in-of, of-in, Good, Fine, Runs, In-phase, phase-in, rewalked, zero-ends, waited-in, left-in, begun-in, turn-in}
 
 -- ---- where no frame is under way, the tables may change
-idle-frame : (k : Kind) (p : Phase) (s l b : List ℕ) → activeOf p ≡ false → frameIn k p s l b ≡ true
+pub idle-frame : (k : Kind) (p : Phase) (s l b : List ℕ) → activeOf p ≡ false → frameIn k p s l b ≡ true
 unfolding frameIn
 idle-frame k Idle s l b e = refl
 idle-frame k (Address n) s l b e = absurd (omega (arith, false-not-true (sym e)))

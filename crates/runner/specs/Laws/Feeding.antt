@@ -30,7 +30,7 @@ use Rattle.runner.specs.Laws.Lines.{end-after}
 use Rattle.runner.specs.Laws.Performing.{Performs, performed, performed-whole}
 
 -- ---- the next line of some bytes
-next-line : (line l : List ℕ) → firstLf l < length l → endedLines line l ≡ (line ++ take (firstLf l) l) ∷ endedLines [] (drop (firstLf l + 1) l)
+pub next-line : (line l : List ℕ) → firstLf l < length l → endedLines line l ≡ (line ++ take (firstLf l) l) ∷ endedLines [] (drop (firstLf l + 1) l)
 unfolding endedLines if_then_else_
 next-line line [] h = absurd (omega (arith, h))
 next-line line (b ∷ l) h = cases (eqb b 10) refl (λ i. next-line (line ++ (b ∷ [])) l i)
@@ -45,7 +45,7 @@ next-line line (b ∷ l) h = cases (eqb b 10) refl (λ i. next-line (line ++ (b 
         let d : drop (n + 1 + 1) (b ∷ l) ≡ drop (n + 1) l = rw (add-one (n + 1)) in
         rw (e, t, d) (f (omega (arith, rw e at h)) ∙ ap (λ (x : List ℕ). x ∷ endedLines [] (drop (firstLf l + 1) l)) (append-assoc line (b ∷ []) (take (firstLf l) l)))
 
-next-rest : (line l : List ℕ) → firstLf l < length l → restOf line l ≡ restOf [] (drop (firstLf l + 1) l)
+pub next-rest : (line l : List ℕ) → firstLf l < length l → restOf line l ≡ restOf [] (drop (firstLf l + 1) l)
 unfolding restOf if_then_else_
 next-rest line [] h = absurd (omega (arith, h))
 next-rest line (b ∷ l) h = cases (eqb b 10) refl (λ i. next-rest (line ++ (b ∷ [])) l i)
@@ -86,7 +86,7 @@ after-whole-one d l w = performed-whole (d .state .part) (d .state .memory) (lin
 pub put-length : (l : List ℕ) (at : ℕ) (text : List ℕ) (r : ℕ) (m : List ℕ) → Put l at text r m → length m ≡ length l
 put-length l at text r m w = ap length (w .bytes) ∙ length-sets l at text
 
-put-then : (l m n s t : List ℕ) (at i j : ℕ) → Put l at s i m → Put m i t j n → Put l at (s ++ t) j n
+pub put-then : (l m n s t : List ℕ) (at i j : ℕ) → Put l at s i m → Put m i t j n → Put l at (s ++ t) j n
 put-then l m n s t at i j p q =
     record {
       place = rw (length-append s t) (omega (arith, p .place, q .place));
