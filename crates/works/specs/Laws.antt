@@ -2,3 +2,6 @@
 pub mod Keys
 pub mod Work
 pub mod Op
+pub mod Idle
+pub mod Spares
+pub mod Calls

@@ -38,7 +38,7 @@ keyless-twice [] = refl
 keyless-twice (y ∷ l) = ap (λ (t : List Channel). keyless y ∷ t) (keyless-twice l)
 
 -- a channel beside a work of another one: a write forgets its key
-abbrev beside : Bool → Channel → Channel
+abbrev pub beside : Bool → Channel → Channel
 beside writes x = if writes then keyless x else x
 
 put-written : (l : List Channel) (c : ℕ) (x : Channel) → putIn l c x true ≡ set (map keyless l) c x
@@ -87,7 +87,7 @@ key-swap c d a b key = go a b (eqb c 3) (eqb d 3) key
     go false false x y key = refl
 
 -- what is channel d's own, beside a work of another one
-abbrev ownLeft : Bool → Own → Own
+abbrev pub ownLeft : Bool → Own → Own
 ownLeft writes o = record { channel = beside writes (o .channel); bytes = o .bytes }
 
 after-left : (w : Work) (writes : Bool) (o : Own) → w .after (ownLeft writes o) ≡ ownLeft writes (w .after o)
@@ -145,7 +145,7 @@ module _ (s : State) (g : Accepted s) where
   sound c w h = w .keeps (ownOf s c) (chan-accepted (s .part) (s .memory) c h good)
 
   -- what is another channel's own is as it was, but for a key that was forgotten
-  own-other : (c d : ℕ) (w : Work) → c < 3 → (c ≡ d → ⊥) → ownOf (workAfter s c w) d ≡ ownLeft (w .writes) (ownOf s d)
+  pub own-other : (c d : ℕ) (w : Work) → c < 3 → (c ≡ d → ⊥) → ownOf (workAfter s c w) d ≡ ownLeft (w .writes) (ownOf s d)
   unfolding workAfter
   own-other c d w h ne =
       rw (
