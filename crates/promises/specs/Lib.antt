@@ -12,4 +12,5 @@ pub mod Script
 pub mod Letters
 pub mod Answers
 pub mod Lent
+pub mod Files
 pub mod Runner

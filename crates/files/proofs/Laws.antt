@@ -1,0 +1,3 @@
+pub mod Moves
+pub mod Blocks
+pub mod Calls
