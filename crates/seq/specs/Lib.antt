@@ -1,0 +1,5 @@
+pub mod Lines
+pub mod Typing
+pub mod Commands
+pub mod Theorem
+pub mod Laws
