@@ -106,7 +106,7 @@ def renaming():
 def clauses(text):
     """Of a .rt file the spans that hold ghost text: `ghost use` lines, and the braces of clauses."""
     spans = [m.span() for m in re.finditer(r"^ghost use [^;]*;", text, re.M)]
-    for m in re.finditer(r"\b(?:requires|ensures|invariant|ghost|measure)\b[^{}\n;]*\{", text):
+    for m in re.finditer(r"\b(?:requires|ensures|invariant|ghost(?! use)|measure)\b[^{}\n;]*\{", text):
         depth, i = 1, m.end()
         while depth:
             depth += {"{": 1, "}": -1}.get(text[i], 0)

@@ -3,7 +3,7 @@ ghost use Rattle.std.specs.Prelude.{◌≡◌, ◌+◌, ◌*◌, ◌≤◌, leng
 ghost use Rattle.part.specs.State.{wiped};
 ghost use Rattle.script.specs.Grammar.{line_room};
 ghost use Rattle.answers.specs.Answer.{answer_room};
-ghost use Rattle.bench.specs.Talk.{block_size, sitting_of, bare_of, silenced, Sized, Ready, Heard, Closed, Written, going_on_lem, Begun, Turned};
+ghost use Rattle.bench.specs.Talk.{block_size, sitting_of, bare_of, silenced, Sized, Ready, Heard, Closed, Written, going_on, Begun, Turned};
 
 use answers::ANSWER_ROOM;
 use libc::{STDERR_FILENO, STDIN_FILENO, STDOUT_FILENO};
@@ -19,7 +19,7 @@ const BLOCK: usize = 8192;
 const OUTPUT: usize = ANSWER_ROOM * BLOCK;
 
 // Where the program stands between two reads: the part, the number of the last step, the line that has begun, and how many bytes of text are in the output.
-#[derive(Drop)]
+#[derive(Clone, Copy)]
 struct Seat {
     part: Part,
     step: u64,
@@ -28,7 +28,7 @@ struct Seat {
 }
 
 // How the program goes on: another read, or it stops since the input has ended, a read failed or a write failed.
-#[derive(Drop)]
+#[derive(Clone, Copy)]
 enum How {
     On,
     Ended,
@@ -37,7 +37,7 @@ enum How {
 }
 
 // What a turn leaves: where the program stands, how many bytes were read, and how it goes on.
-#[derive(Drop)]
+#[derive(Clone, Copy)]
 struct Bench {
     seat: Seat,
     came: usize,

@@ -1,4 +1,6 @@
 // Document 01, 'Out of range': its clauses over the parts of a channel's record.
+#![tactic(auto)]
+
 ghost use Rattle.std.specs.Prelude.{◌≡◌, ◌<◌, ◌≤◌, get_or};
 ghost use Rattle.bounds.specs.Range.{pointers_in, registers_in, counting_of, ended_in, blank_of, recorded_in, walk_in, standing, counted_in, clear_after, counts_in, frame_at, frame_in, kinds_in};
 

@@ -7,7 +7,7 @@ ghost use Rattle.head.specs.Access.{read_refusal, refusal_of};
 ghost use Rattle.channel.specs.State.{fresh, zeros, leaving, on};
 ghost use Rattle.channel.specs.Lent.{lent, found, left, leaves};
 ghost use Rattle.channel.specs.Access.{read_by, asked, controlled, written_by};
-ghost use Rattle.channel.specs.Step.{write_at, read_at_lem};
+ghost use Rattle.channel.specs.Step.{write_at, read_at};
 ghost use Rattle.channel.specs.Facts.{Accepted};
 
 use crate::wires::begin_anew;

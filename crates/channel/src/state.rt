@@ -7,7 +7,7 @@ use head::{Answer, Head};
 use rules::{Action, Straps};
 
 // A channel: its head, and its tables, statuses and counts.
-#[derive(Drop)]
+#[derive(Clone, Copy)]
 pub struct Channel {
     pub slatable: [u8; 64],
     pub head: Head,
@@ -17,7 +17,7 @@ pub struct Channel {
 }
 
 // What a step gives back: the channel, and its answer.
-#[derive(Drop)]
+#[derive(Clone, Copy)]
 pub struct Stepped {
     pub channel: Channel,
     pub answer: Answer,

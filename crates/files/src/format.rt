@@ -16,7 +16,7 @@ pub const HEADER: usize = 12;
 pub const LARGEST: usize = 4492;
 
 // What is wrong with a file.
-#[derive(Drop)]
+#[derive(Clone, Copy)]
 pub enum Fault {
     // nothing
     Sound,

@@ -35,7 +35,7 @@ fn idle_number(p: Phase, own: u8) -> u8
 // ---- reading
 
 // The tables of a file.
-#[derive(Drop)]
+#[derive(Clone, Copy)]
 struct Tables {
     slatable: [u8; 64],
     tranconfig: [u8; 65],

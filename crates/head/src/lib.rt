@@ -1,4 +1,6 @@
 // A channel without its tables: its registers and settings, flags, pointers, the walk of its sequence, and the rules that need no table, or one.
+#![tactic(auto)]
+
 mod access;
 mod range;
 mod state;

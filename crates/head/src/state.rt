@@ -5,7 +5,7 @@ ghost use Rattle.head.specs.State.{settings_of, fresh_head, refused, replied, ac
 use rules::{Action, DONE, Flags, Kind, Ptrs, Regs, Straps, Walk};
 
 // FRAMECNT, REFRATE, SCLL, SCLH, MODE and TIMEOUT; of a UFm channel SCLPER and SDADLY stand in place of SCLL and SCLH, and TIMEOUT is reserved.
-#[derive(Drop)]
+#[derive(Clone, Copy)]
 pub struct Settings {
     pub framecnt: u8,
     pub refrate: u8,
@@ -18,7 +18,7 @@ pub struct Settings {
 // A channel without its tables: its registers and settings, flags, pointers, the walk of its sequence, whether A5h was written to PRESET, and what the hardware
 // reset chose.
 // A step takes it by value and has the tables lent, so that no table is copied from call to call.
-#[derive(Drop)]
+#[derive(Clone, Copy)]
 pub struct Head {
     pub regs: Regs,
     pub key: bool,
@@ -30,7 +30,7 @@ pub struct Head {
 }
 
 // The number of document 01, the value of a read, and the action.
-#[derive(Drop)]
+#[derive(Clone, Copy)]
 pub struct Answer {
     pub number: u8,
     pub value: u8,
@@ -38,7 +38,7 @@ pub struct Answer {
 }
 
 // What a step over lent tables gives back.
-#[derive(Drop)]
+#[derive(Clone, Copy)]
 pub struct Headed {
     pub head: Head,
     pub answer: Answer,

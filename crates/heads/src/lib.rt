@@ -13,14 +13,14 @@ use rules::{DONE, Device};
 use steps::{Act, PartAnswer, Target, act_at, op_writes, wide_writes};
 
 // The part without its channels' tables.
-#[derive(Drop)]
+#[derive(Clone, Copy)]
 pub struct Heads {
     pub channels: [Head; 3],
     pub common: Common,
 }
 
 // What the part has beside its channels: BE, CTRLINTMSK, and whether A5h was written to CTRLPRESET.
-#[derive(Drop)]
+#[derive(Clone, Copy)]
 pub struct Common {
     pub be: bool,
     pub mask: u8,
@@ -28,7 +28,7 @@ pub struct Common {
 }
 
 // What a step of one channel gives back.
-#[derive(Drop)]
+#[derive(Clone, Copy)]
 pub struct OneStepped {
     pub head: Head,
     pub common: Common,
@@ -36,7 +36,7 @@ pub struct OneStepped {
 }
 
 // What a step gives back.
-#[derive(Drop)]
+#[derive(Clone, Copy)]
 pub struct HeadsStepped {
     pub heads: Heads,
     pub answer: PartAnswer,

@@ -1,4 +1,6 @@
 // Document 01, 'The part as the processor sees it': what CTRLINTMSK keeps, pending causes, and the interrupt; and BE, which no. 5 sets.
+#![tactic(auto)]
+
 ghost use Rattle.std.specs.Prelude.{◌≡◌, ◌≤◌, eqb};
 ghost use Rattle.rules.specs.Registers.{weigh, chstatus_value};
 ghost use Rattle.interrupt.specs.Interrupt.{ctrl_kept, ◌unless◌, on_fm, some_of, causes_of, pending_of, pulls_of, pulled_by, be_after, mask_in};

@@ -5,7 +5,7 @@ ghost use Rattle.letters.specs.Letters.{digit_of, one_letter, two_letters, one_a
 use rules::Action;
 
 // The first `len` of the bytes are the text, and the others are 0.
-#[derive(Drop)]
+#[derive(Clone, Copy)]
 pub struct Text {
     pub bytes: [u8; 4],
     pub len: usize,

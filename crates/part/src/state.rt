@@ -7,7 +7,7 @@ use rules::{Device, Kind, Straps, other_kind};
 use steps::{PartAnswer, no_acts};
 
 // The part: its channels, BE, CTRLINTMSK, and whether A5h was written to CTRLPRESET.
-#[derive(Drop)]
+#[derive(Clone, Copy)]
 pub struct Part {
     pub channels: [Channel; 3],
     pub be: bool,
@@ -16,7 +16,7 @@ pub struct Part {
 }
 
 // What a step gives back: the part, and its answer.
-#[derive(Drop)]
+#[derive(Clone, Copy)]
 pub struct PartStepped {
     pub part: Part,
     pub answer: PartAnswer,

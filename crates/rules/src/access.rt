@@ -10,7 +10,7 @@ use crate::state::Phase;
 use crate::tables::{configured, start_of};
 
 // Where DATA's pointer stands: at a configured place of the buffer, or outside.
-#[derive(Drop)]
+#[derive(Clone, Copy)]
 pub enum Spot {
     At(usize),
     Outside,

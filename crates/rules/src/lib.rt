@@ -1,5 +1,7 @@
 // The rules of document 01 that need no record of a channel: its enums and parts, and the decisions and loops on registers and tables; and document 02's two parts, and its numbers of
 // actions and events.
+#![tactic(auto)]
+
 mod access;
 mod numbers;
 mod parts;

@@ -3,20 +3,20 @@ ghost use Rattle.std.specs.Prelude.{◌≡◌};
 ghost use Rattle.rules.specs.Parts.{is_fm, other_kind, device_by, device_id};
 
 // Fm+ sends and receives, and is acknowledged. Ultra Fast-mode (UFm) only sends, and nobody acknowledges.
-#[derive(Drop)]
+#[derive(Clone, Copy)]
 pub enum Kind {
     Fm,
     Ufm,
 }
 
 // What the hardware reset chose of a channel: no other step changes it.
-#[derive(Drop)]
+#[derive(Clone, Copy)]
 pub struct Straps {
     pub kind: Kind,
 }
 
 // The parts.
-#[derive(Drop)]
+#[derive(Clone, Copy)]
 pub enum Device {
     Pca9663,
     Pcu9669,

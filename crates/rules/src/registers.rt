@@ -7,7 +7,7 @@ ghost use Rattle.rules.specs.Facts.{Known, KnownPlace};
 use crate::state::{Flags, Phase};
 
 // A register of a channel: STATUS n, or the one at C0h, D0h or E0h + 0 to Fh. Setting 0 to 5 are FRAMECNT, REFRATE, SCLL, SCLH, MODE and TIMEOUT.
-#[derive(Drop)]
+#[derive(Clone, Copy)]
 pub enum Register {
     Status(usize),
     Control,
@@ -24,14 +24,14 @@ pub enum Register {
 }
 
 // An address as a channel sees it: one of its registers, or none.
-#[derive(Drop)]
+#[derive(Clone, Copy)]
 pub enum Place {
     Here(Register),
     Elsewhere,
 }
 
 // What a write to CONTROL commands: its bits.
-#[derive(Drop)]
+#[derive(Clone, Copy)]
 pub struct Command {
     pub stoseq: bool,
     pub sta: bool,

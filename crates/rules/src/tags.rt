@@ -5,14 +5,14 @@ ghost use Rattle.rules.specs.Tags.{tag, action_tag, plain_of, event_of};
 use crate::wires::{Action, Event, Level};
 
 // An action or an event in numbers: its kind, and the byte that it carries, or 0.
-#[derive(Drop)]
+#[derive(Clone, Copy)]
 pub struct Tag {
     pub kind: u8,
     pub value: u8,
 }
 
 // The event of a tag, or that it is no event's.
-#[derive(Drop)]
+#[derive(Clone, Copy)]
 pub enum Decoded {
     Known(Event),
     NoEvent,

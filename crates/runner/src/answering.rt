@@ -17,7 +17,7 @@ use script::Line;
 use steps::{Op, Target, Wide};
 
 // How far a block is answered: the part, the number of the last step, the place of the next line in the block, and the output's next free place.
-#[derive(Drop)]
+#[derive(Clone, Copy)]
 pub struct Course {
     pub part: Part,
     pub step: u64,
@@ -26,14 +26,14 @@ pub struct Course {
 }
 
 // What concerns no single channel: a step of the whole part, or a line that can't be read.
-#[derive(Drop)]
+#[derive(Clone, Copy)]
 enum Rest {
     All(Wide),
     Unread,
 }
 
 // What a line asks for: a step of one channel, or something else. One test tells the usual case, and costs less than the two of Line and Target.
-#[derive(Drop)]
+#[derive(Clone, Copy)]
 enum Aim {
     One(Op, u8),
     Others(Rest),

@@ -2,12 +2,12 @@
 ghost use Rattle.std.specs.Prelude.{◌≡◌, ◌-◌, ◌≤◌, length, take};
 ghost use Rattle.std.proofs.lemmas.List.Edits.{sets};
 ghost use Rattle.script.specs.Grammar.{line_room};
-ghost use Rattle.runner.specs.Lines.{no_line, with_byte_lem, lengthened, kept_of, line_end};
+ghost use Rattle.runner.specs.Lines.{no_line, with_byte, lengthened, kept_of, line_end};
 
 use script::LINE_ROOM;
 
 // The line that is being read: as many of its first bytes as tell how it is read, since a line of LINE_ROOM bytes or more can't be.
-#[derive(Drop)]
+#[derive(Clone, Copy)]
 pub struct Start {
     pub bytes: [u8; LINE_ROOM],
     pub len: usize,

@@ -9,7 +9,7 @@ use steps::Step;
 pub const LINE_ROOM: usize = 16;
 
 // What a line, without its LF, asks for.
-#[derive(Drop)]
+#[derive(Clone, Copy)]
 pub enum Line {
     Readable(Step),
     Unreadable,

@@ -11,7 +11,7 @@ use part::Part;
 use rules::{DONE, Device, MEMORY, byte};
 
 // The tally of a script's lines, the number of the library's answer, and where that is 0 the bytes of the file.
-#[derive(Drop)]
+#[derive(Clone, Copy)]
 pub struct Saved {
     pub tally: Tally,
     pub number: u8,
@@ -19,7 +19,7 @@ pub struct Saved {
 }
 
 // The number of the library's answer, and where that is 0 the bytes of the script.
-#[derive(Drop)]
+#[derive(Clone, Copy)]
 pub struct Loaded {
     pub number: u8,
     pub len: usize,

@@ -8,7 +8,7 @@ use rules::{DONE, Device};
 use script::Line;
 
 // The lines so far: how many there are and how many were refused, and of the first refused one its number and its answer's.
-#[derive(Drop)]
+#[derive(Clone, Copy)]
 pub struct Tally {
     pub lines: u64,
     pub refused: u64,
@@ -17,7 +17,7 @@ pub struct Tally {
 }
 
 // What a script leaves: the part, and the tally of its lines.
-#[derive(Drop)]
+#[derive(Clone, Copy)]
 pub struct Ran {
     pub part: Part,
     pub tally: Tally,

@@ -1,4 +1,6 @@
 // Document 01, 'A sequence on the wires', as far as it needs no record of a channel: its enums, its decisions, the changes of a walk and of the flags, and a byte counted and stored.
+#![tactic(auto)]
+
 mod walk;
 mod wires;
 

@@ -2,7 +2,7 @@
 ghost use Rattle.std.specs.Prelude.{◌≡◌, ◌+◌, ◌<◌, ◌≤◌, length, set, get_or};
 ghost use Rattle.rules.specs.Numbers.{buffer_size};
 ghost use Rattle.rules.specs.Tables.{start_of};
-ghost use Rattle.sequence.specs.Wires.{stop_asked, start_asked, leave_asked, asked_in_lem, ask_of, beginning_of, again_by};
+ghost use Rattle.sequence.specs.Wires.{stop_asked, start_asked, leave_asked, asked_in, ask_of, beginning_of, again_by};
 ghost use Rattle.sequence.specs.Wires.{ack_turn, byte_turn, nack_turn, ninth_turn, masked_of, halted_of, next_of, reach_of, move_of, stop_by};
 ghost use Rattle.sequence.specs.Wires.{ticking_of, beat_of, beat_turn, tick_turn, stop_turn, sda_turn, scl_turn, heard_turn, hears_of, turn_of, ending_of, rest_of, fld_after, matches_of, edge_beat};
 ghost use Rattle.sequence.specs.Facts.{Counting, Ready, Exists};
@@ -12,7 +12,7 @@ use rules::{
 };
 
 // What is left of a write to CONTROL after TP, TE and the pointer resets.
-#[derive(Drop)]
+#[derive(Clone, Copy)]
 pub enum Ask {
     Nothing,
     Overrun,
@@ -24,7 +24,7 @@ pub enum Ask {
 }
 
 // How a frame begins.
-#[derive(Drop)]
+#[derive(Clone, Copy)]
 pub enum Beginning {
     Empty,
     Unfit,
@@ -32,7 +32,7 @@ pub enum Beginning {
 }
 
 // What an event comes to in the phase that it meets.
-#[derive(Drop)]
+#[derive(Clone, Copy)]
 pub enum Turn {
     Unawaited,
     AckAddress(usize),
@@ -47,7 +47,7 @@ pub enum Turn {
 }
 
 // After a byte, or the address of a write: cut short, one more byte, or over.
-#[derive(Drop)]
+#[derive(Clone, Copy)]
 pub enum Next {
     Cut,
     More,
@@ -55,21 +55,21 @@ pub enum Next {
 }
 
 // The next move of a walk: a stop, or the transaction to send.
-#[derive(Drop)]
+#[derive(Clone, Copy)]
 pub enum Move {
     Halt,
     Send(usize),
 }
 
 // Whether the last byte has yet to be refused by the channel itself: P and R, or NP and NR.
-#[derive(Drop)]
+#[derive(Clone, Copy)]
 pub enum Tail {
     Plain,
     Nacked,
 }
 
 // What a TICK or a matching trigger edge does: nothing, begin a frame, or be late.
-#[derive(Drop)]
+#[derive(Clone, Copy)]
 pub enum Beat {
     Quiet,
     Begin,
@@ -77,7 +77,7 @@ pub enum Beat {
 }
 
 // SDA, SCL and ILL, by the flag that each sets.
-#[derive(Drop)]
+#[derive(Clone, Copy)]
 pub enum Fault {
     Dae,
     Cle,
@@ -85,7 +85,7 @@ pub enum Fault {
 }
 
 // How a frame ends: FE recorded, an error end, SD and Idle, or SD and Waiting with the number of ended frames.
-#[derive(Drop)]
+#[derive(Clone, Copy)]
 pub enum Ending {
     Fe,
     Error,

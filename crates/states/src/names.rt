@@ -2,7 +2,7 @@
 ghost use Rattle.std.specs.Prelude.{◌≤◌, length};
 
 // The number of an alteration (from 00h on, its place in a case) or of a phase (from 40h on), its name, and its largest value.
-#[derive(Drop)]
+#[derive(Clone, Copy)]
 struct Name(usize, [u8; 10], usize);
 
 const NAMED: usize = 38;
@@ -55,7 +55,7 @@ const NAMES: [Name; NAMED] = [
 ];
 
 // The numbers, each at its alteration's place, with room to 3Fh, then the phase's and its transaction; and whether every alteration could be read.
-#[derive(Drop)]
+#[derive(Clone, Copy)]
 pub(crate) struct Case {
     pub(crate) k: [usize; 66],
     pub(crate) good: bool,
@@ -78,13 +78,13 @@ pub(crate) fn base() -> Case {
 // ---- an alteration read: a name, a space, and a value in decimal
 
 // A name's number and its largest value.
-#[derive(Drop)]
+#[derive(Clone, Copy)]
 enum Found {
     Is(usize, usize),
     Nowhere,
 }
 
-#[derive(Drop)]
+#[derive(Clone, Copy)]
 enum Value {
     Is(usize),
     Unread,

@@ -1,17 +1,17 @@
 // What a step of the part answers.
 ghost use Rattle.std.specs.Prelude.{◌≡◌, ◌<◌};
-ghost use Rattle.steps.specs.Answer.{quiet, act_if, only_at_lem};
+ghost use Rattle.steps.specs.Answer.{quiet, act_if, only_at};
 
 use rules::Action;
 
 // What one channel does on its wires.
-#[derive(Drop)]
+#[derive(Clone, Copy)]
 pub struct Act {
     pub action: Action,
 }
 
 // The number of document 01, the value of a read, and an action for each channel.
-#[derive(Drop)]
+#[derive(Clone, Copy)]
 pub struct PartAnswer {
     pub number: u8,
     pub value: u8,

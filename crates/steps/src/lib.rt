@@ -1,4 +1,6 @@
 // A step, whom it concerns, and what it answers.
+#![tactic(auto)]
+
 mod answer;
 mod keys;
 mod map;

@@ -6,7 +6,7 @@ ghost use Rattle.steps.specs.Facts.{InPart};
 use rules::{Device, Edge, Event};
 
 // A step of a single channel: a write of a byte at an address, a read at an address, or what its wires did.
-#[derive(Drop)]
+#[derive(Clone, Copy)]
 pub enum Op {
     Write(u8, u8),
     Read(u8),
@@ -14,7 +14,7 @@ pub enum Op {
 }
 
 // A step of the part: the processor writes a byte at an address or reads one, a channel's wires did something, an edge of the trigger, the hardware reset, which chooses the part.
-#[derive(Drop)]
+#[derive(Clone, Copy)]
 pub enum Step {
     Write(u8, u8),
     Read(u8),
@@ -24,7 +24,7 @@ pub enum Step {
 }
 
 // A register of the whole part, at F0h to FFh.
-#[derive(Drop)]
+#[derive(Clone, Copy)]
 pub enum Ctrl {
     Ctrlstatus,
     Ctrlintmsk,
@@ -36,7 +36,7 @@ pub enum Ctrl {
 }
 
 // A step of the whole part: a write or a read of its registers, a trigger edge, the hardware reset, or nobody's (an event of a channel above 2).
-#[derive(Drop)]
+#[derive(Clone, Copy)]
 pub enum Wide {
     CtrlWrite(Ctrl, u8),
     CtrlRead(Ctrl),
@@ -46,7 +46,7 @@ pub enum Wide {
 }
 
 // Whom a step concerns: one channel, by what is asked of it and its number; or the whole part, or nobody.
-#[derive(Drop)]
+#[derive(Clone, Copy)]
 pub enum Target {
     One(Op, u8),
     All(Wide),

@@ -12,7 +12,7 @@ use steps::PartAnswer;
 pub(crate) const BYTES: usize = 13058;
 
 // A call's header: what it is, its channel, the bytes that are lent or the field of a poke, the value of a poke, and the length of the buffer.
-#[derive(Drop)]
+#[derive(Clone, Copy)]
 pub(crate) struct Call {
     pub(crate) what: u8,
     pub(crate) channel: u8,

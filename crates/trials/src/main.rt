@@ -94,7 +94,7 @@ fn report(number: u64, r: PartStepped, buf: &[u8], mem: &[u8; BYTES]) {
 
 // ---- a call
 
-#[derive(Drop)]
+#[derive(Clone, Copy)]
 enum Next {
     Is(Call),
     End,

@@ -90,6 +90,7 @@ module _ (register mask : ℕ) where
   some_bit (w ∷ l) e = ⊎_elim (λ (h : row_of w ≡ true). inl (row_says _ _ h)) (λ (h : some_of (map row_of l) ≡ true). inr (some_bit l h)) (first (row_of w) (map row_of l) e)
 
   pub of_some_bit : (weights : List ℕ) → Some Unmasked weights → some_of (map row_of weights) ≡ true
+  of_some_bit [] h = elim h [ ]
   of_some_bit (w ∷ l) (inl h) = holds_at (map row_of (w ∷ l)) 0 (row_holds _ _ h.0 h.1)
   of_some_bit (w ∷ l) (inr h) = behind (row_of w) (map row_of l) (of_some_bit l h)
 

@@ -1,0 +1,7 @@
+-- `steps::answer::act_at` meets its contract.
+use Rattle.steps.specs.Laws.Acts.{only_at_lem}
+use borrow.Author.Rules.{rules}
+use Rattle.steps.proofs.answer.act_at.Goals as goal
+
+pub returns : goal.returns
+returns c = rw (c.act_if-third.ensures, c.act_if-second.ensures, c.act_if-first.ensures) (only_at_lem _ _ c.requires)
