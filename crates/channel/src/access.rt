@@ -27,7 +27,7 @@ fn read_by(
     reg: Register,
 ) -> Headed
     requires { Known reg × (read_refusal h.ptrs lens.now reg ≡ 0) × (length mem.now ≡ buffer_size) }
-    ensures { left result sla lens status counts ≡ read_by (found h sla lens status counts) mem.now reg }
+    ensures { left result sla.now lens.now status.now counts.now ≡ read_by (found h sla.now lens.now status.now counts.now) mem.now reg }
 {
     let g = h.regs;
     match reg {
@@ -56,8 +56,8 @@ pub(crate) fn read(
     mem: &[u8],
     place: Place,
 ) -> Headed
-    requires { Accepted (lent h sla lens status counts) mem.now × KnownPlace place }
-    ensures { leaves result sla lens status counts mem ≡ read_at (found h sla lens status counts) mem.now place }
+    requires { Accepted (lent h sla.now lens.now status.now counts.now) mem.now × KnownPlace place }
+    ensures { leaves result sla.now lens.now status.now counts.now mem.now ≡ read_at (found h sla.now lens.now status.now counts.now) mem.now place }
 {
     let Place::Here(reg) = place else {
         return h.answer(NOWHERE);
@@ -80,7 +80,7 @@ fn ask(
     a: Ask,
 ) -> Headed
     requires { get_or lens.now 0 0 ≤ 64 }
-    ensures { left result sla lens status counts ≡ asked (found h sla lens status counts) a }
+    ensures { left result sla.now lens.now status.new counts.new ≡ asked (found h sla.now lens.now status.old counts.old) a }
 {
     match a {
         Ask::Nothing => h.answer(DONE),
@@ -102,7 +102,7 @@ fn control(
     k: Command,
 ) -> Headed
     requires { (h.regs.transel ≤ 63) × (get_or lens.now 0 0 ≤ 64) }
-    ensures { left result sla lens status counts ≡ controlled (found h sla lens status counts) k }
+    ensures { left result sla.now lens.now status.new counts.new ≡ controlled (found h sla.now lens.now status.old counts.old) k }
 {
     let w = h.walk;
     let p = w.phase;
@@ -126,8 +126,8 @@ fn write_by(
     reg: Register,
     v: u8,
 ) -> Headed
-    requires { Accepted (lent h sla lens status counts) mem.old × Known reg × (refusal_of h lens.old reg v ≡ 0) }
-    ensures { leaves result sla lens status counts mem ≡ written_by (found h sla lens status counts) mem.old reg v }
+    requires { Accepted (lent h sla.old lens.old status.old counts.old) mem.old × Known reg × (refusal_of h lens.old reg v ≡ 0) }
+    ensures { leaves result sla.new lens.new status.new counts.new mem.new ≡ written_by (found h sla.old lens.old status.old counts.old) mem.old reg v }
 {
     match reg {
         Register::Status(_) => h.answer(DONE),
@@ -155,7 +155,7 @@ fn reset(
     mem: &mut [u8],
 ) -> Headed
     requires { length mem.old ≡ buffer_size }
-    ensures { leaves result sla lens status counts mem ≡ leaving zeros (on (fresh h.straps) (plain (fresh_head h.straps))) }
+    ensures { leaves result sla.new lens.new status.new counts.new mem.new ≡ leaving zeros (on (fresh h.straps) (plain (fresh_head h.straps))) }
 {
     rules::wipe(mem);
     *sla = [0; 64];
@@ -176,8 +176,8 @@ pub(crate) fn write(
     place: Place,
     v: u8,
 ) -> Headed
-    requires { Accepted (lent h sla lens status counts) mem.old × KnownPlace place }
-    ensures { leaves result sla lens status counts mem ≡ write_at (found h sla lens status counts) mem.old place v }
+    requires { Accepted (lent h sla.old lens.old status.old counts.old) mem.old × KnownPlace place }
+    ensures { leaves result sla.new lens.new status.new counts.new mem.new ≡ write_at (found h sla.old lens.old status.old counts.old) mem.old place v }
 {
     let Place::Here(reg) = place else {
         return h.answer(NOWHERE);

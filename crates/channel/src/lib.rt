@@ -1,4 +1,6 @@
 // One channel, Fm+ or UFm: its record, and the step over it.
+#![tactic(auto)]
+
 mod access;
 mod range;
 mod state;

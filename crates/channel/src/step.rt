@@ -33,8 +33,8 @@ fn event_at(
     number: u8,
     e: Event,
 ) -> Headed
-    requires { Accepted (lent h sla lens status counts) mem.old }
-    ensures { leaves result sla lens status counts mem ≡ event_at (found h sla lens status counts) mem.old number e }
+    requires { Accepted (lent h sla.now lens.now status.old counts.old) mem.old }
+    ensures { leaves result sla.now lens.now status.new counts.new mem.new ≡ event_at (found h sla.now lens.now status.old counts.old) mem.old number e }
 {
     if 2 < number {
         return h.answer(NOWHERE);
@@ -54,8 +54,8 @@ pub fn serve_lent(
     mem: &mut [u8],
     op: Op,
 ) -> Headed
-    requires { Accepted (lent h sla lens status counts) mem.old }
-    ensures { leaves result sla lens status counts mem ≡ served_by (found h sla lens status counts) mem.old number op }
+    requires { Accepted (lent h sla.old lens.old status.old counts.old) mem.old }
+    ensures { leaves result sla.new lens.new status.new counts.new mem.new ≡ served_by (found h sla.old lens.old status.old counts.old) mem.old number op }
 {
     match op {
         Op::Write(a, v) => {

@@ -29,7 +29,7 @@ fn send(
     a: Action,
 ) -> Headed
     requires { n < 64 }
-    ensures { left result sla lens status counts ≡ sent_to (found h sla lens status counts) n a }
+    ensures { left result sla.now lens.now status.new counts.now ≡ sent_to (found h sla.now lens.now status.old counts.now) n a }
 {
     status[n] = UNDERWAY;
     h.to_phase(Phase::Address(n as u8)).act(a)
@@ -44,7 +44,7 @@ fn start_by(
     m: Move,
 ) -> Headed
     requires { Exists m }
-    ensures { left result sla lens status counts ≡ started_by (found h sla lens status counts) m }
+    ensures { left result sla.now lens.now status.new counts.now ≡ started_by (found h sla.now lens.now status.old counts.now) m }
 {
     let Move::Send(n) = m else {
         return h.end_frame();
@@ -62,7 +62,7 @@ fn start(
     counts: &mut [u8; 64],
 ) -> Headed
     requires { get_or lens.now 0 0 ≤ 64 }
-    ensures { left result sla lens status counts ≡ started (cleared (found h sla lens status counts)) }
+    ensures { left result sla.now lens.now status.new counts.new ≡ started (cleared (found h sla.now lens.now status.old counts.old)) }
 {
     *status = [NOT_BEGUN; 64];
     *counts = [0; 64];
@@ -82,7 +82,7 @@ fn begin_by(
     b: Beginning,
 ) -> Headed
     requires { get_or lens.now 0 0 ≤ 64 }
-    ensures { left result sla lens status counts ≡ began_by (found h sla lens status counts) b }
+    ensures { left result sla.now lens.now status.new counts.new ≡ began_by (found h sla.now lens.now status.old counts.old) b }
 {
     match b {
         Beginning::Empty => h.to_idle().answer(DONE),
@@ -99,7 +99,7 @@ pub(crate) fn begin(
     counts: &mut [u8; 64],
 ) -> Headed
     requires { get_or lens.now 0 0 ≤ 64 }
-    ensures { left result sla lens status counts ≡ begun (found h sla lens status counts) }
+    ensures { left result sla.now lens.now status.new counts.new ≡ begun (found h sla.now lens.now status.old counts.old) }
 {
     let count = rules::byte(lens[0]);
     let fit = rules::fits(lens);
@@ -116,7 +116,7 @@ pub(crate) fn begin_anew(
     counts: &mut [u8; 64],
 ) -> Headed
     requires { get_or lens.now 0 0 ≤ 64 }
-    ensures { left result sla lens status counts ≡ begun (found h sla lens status counts) }
+    ensures { left result sla.now lens.now status.new counts.new ≡ begun (found h sla.now lens.now status.old counts.old) }
 {
     begin(h, sla, lens, status, counts).anew()
 }
@@ -134,7 +134,7 @@ fn move_to(
     m: Move,
 ) -> Headed
     requires { Exists m }
-    ensures { left result sla lens status counts ≡ moved_to (found h sla lens status counts) t m }
+    ensures { left result sla.now lens.now status.new counts.now ≡ moved_to (found h sla.now lens.now status.old counts.now) t m }
 {
     let Move::Send(n) = m else {
         return h.stop(sequence::stop_by(t));
@@ -153,7 +153,7 @@ fn onward(
     t: Tail,
 ) -> Headed
     requires { Running lens.now n }
-    ensures { left result sla lens status counts ≡ onward (found h sla lens status counts) n t }
+    ensures { left result sla.now lens.now status.new counts.now ≡ onward (found h sla.now lens.now status.old counts.now) n t }
 {
     let halt = h.halts();
     let to = sequence::reach(h.kind(), halt, n, sla, lens);
@@ -173,7 +173,7 @@ fn finish(
     t: Tail,
 ) -> Headed
     requires { Running lens.now n }
-    ensures { left result sla lens status counts ≡ finished (found h sla lens status counts) n t }
+    ensures { left result sla.now lens.now status.new counts.now ≡ finished (found h sla.now lens.now status.old counts.now) n t }
 {
     status[n] = DONE_STATUS;
     onward(h, sla, lens, status, counts, n, t)
@@ -192,7 +192,7 @@ fn send_byte(
     k: usize,
 ) -> Headed
     requires { (n < 64) × (start_of lens.now n + k < length mem.now) }
-    ensures { left result sla lens status counts ≡ byte_sent (found h sla lens status counts) mem.now n k }
+    ensures { left result sla.now lens.now status.now counts.now ≡ byte_sent (found h sla.now lens.now status.now counts.now) mem.now n k }
 {
     let i = rules::start_of(lens, n) + k;
     let b = mem[i];
@@ -211,7 +211,7 @@ fn send_on(
     x: Next,
 ) -> Headed
     requires { Running lens.now n × Ready x k (get_or lens.now (n + 1) 0) × (length mem.now ≡ buffer_size) }
-    ensures { left result sla lens status counts ≡ send_on (found h sla lens status counts) mem.now n k x }
+    ensures { left result sla.now lens.now status.new counts.now ≡ send_on (found h sla.now lens.now status.old counts.now) mem.now n k x }
 {
     match x {
         Next::Cut => h.stop(Action::P),
@@ -230,7 +230,7 @@ fn ack_write(
     n: usize,
 ) -> Headed
     requires { Running lens.now n × (length mem.now ≡ buffer_size) }
-    ensures { left result sla lens status counts ≡ ack_write (found h sla lens status counts) mem.now n }
+    ensures { left result sla.now lens.now status.new counts.now ≡ ack_write (found h sla.now lens.now status.old counts.now) mem.now n }
 {
     let len = rules::byte(lens[n + 1]);
     let x = sequence::next_byte(h.halts(), 0, len);
@@ -247,7 +247,7 @@ fn ack_address(
     n: usize,
 ) -> Headed
     requires { Running lens.now n × (length mem.now ≡ buffer_size) }
-    ensures { left result sla lens status counts ≡ ack_address (found h sla lens status counts) mem.now n }
+    ensures { left result sla.now lens.now status.new counts.now ≡ ack_address (found h sla.now lens.now status.old counts.now) mem.now n }
 {
     if rules::reads(sla[n]) {
         h.clock(n)
@@ -266,7 +266,7 @@ fn ack_sending(
     n: usize,
 ) -> Headed
     requires { Counting lens.now counts.old n × (length mem.now ≡ buffer_size) }
-    ensures { left result sla lens status counts ≡ ack_sending (found h sla lens status counts) mem.now n }
+    ensures { left result sla.now lens.now status.new counts.new ≡ ack_sending (found h sla.now lens.now status.old counts.old) mem.now n }
 {
     let len = rules::byte(lens[n + 1]);
     let k = rules::byte(counts[n]) + 1;
@@ -287,7 +287,7 @@ fn receive_on(
     x: Next,
 ) -> Headed
     requires { Running lens.now n }
-    ensures { left result sla lens status counts ≡ receive_on (found h sla lens status counts) n x }
+    ensures { left result sla.now lens.now status.new counts.now ≡ receive_on (found h sla.now lens.now status.old counts.now) n x }
 {
     match x {
         Next::Cut => h.stop(Action::Np),
@@ -307,7 +307,7 @@ fn receive(
     b: u8,
 ) -> Headed
     requires { Counting lens.now counts.old n × (length mem.old ≡ buffer_size) }
-    ensures { leaves result sla lens status counts mem ≡ received (found h sla lens status counts) mem.old n b }
+    ensures { leaves result sla.now lens.now status.new counts.new mem.new ≡ received (found h sla.now lens.now status.old counts.old) mem.old n b }
 {
     sequence::store(lens, counts, mem, n, b);
     let len = rules::byte(lens[n + 1]);
@@ -329,7 +329,7 @@ fn fail_by(
     masked: bool,
 ) -> Headed
     requires { Running lens.now n }
-    ensures { left result sla lens status counts ≡ failed_by (found h sla lens status counts) n masked }
+    ensures { left result sla.now lens.now status.new counts.now ≡ failed_by (found h sla.now lens.now status.old counts.now) n masked }
 {
     if masked {
         onward(h, sla, lens, status, counts, n, Tail::Plain)
@@ -348,7 +348,7 @@ fn nack(
     v: u8,
 ) -> Headed
     requires { Running lens.now n }
-    ensures { left result sla lens status counts ≡ nacked (found h sla lens status counts) n v }
+    ensures { left result sla.now lens.now status.new counts.now ≡ nacked (found h sla.now lens.now status.old counts.now) n v }
 {
     let read = rules::reads(sla[n]);
     let masked = sequence::masked(h.regs.intmsk, read);
@@ -367,8 +367,8 @@ pub(crate) fn turn(
     mem: &mut [u8],
     t: Turn,
 ) -> Headed
-    requires { Meets (lent h sla lens status counts) t × (length mem.old ≡ buffer_size) }
-    ensures { leaves result sla lens status counts mem ≡ turned (found h sla lens status counts) mem.old t }
+    requires { Meets (lent h sla.now lens.now status.old counts.old) t × (length mem.old ≡ buffer_size) }
+    ensures { leaves result sla.now lens.now status.new counts.new mem.new ≡ turned (found h sla.now lens.now status.old counts.old) mem.old t }
 {
     match t {
         Turn::Unawaited => h.answer(NOT_AWAITED),
@@ -393,7 +393,7 @@ fn beat(
     b: Beat,
 ) -> Headed
     requires { get_or lens.now 0 0 ≤ 64 }
-    ensures { left result sla lens status counts ≡ beaten (found h sla lens status counts) b }
+    ensures { left result sla.now lens.now status.new counts.new ≡ beaten (found h sla.now lens.now status.old counts.old) b }
 {
     match b {
         Beat::Quiet => h.answer(DONE),
@@ -411,8 +411,8 @@ pub fn trigger_lent(
     counts: &mut [u8; 64],
     edge: Edge,
 ) -> Headed
-    requires { in_range (lent h sla lens status counts) ≡ true }
-    ensures { left result sla lens status counts ≡ triggered (found h sla lens status counts) edge }
+    requires { in_range (lent h sla.now lens.now status.old counts.old) ≡ true }
+    ensures { left result sla.now lens.now status.new counts.new ≡ triggered (found h sla.now lens.now status.old counts.old) edge }
 {
     let w = h.walk;
     let p = w.phase;

@@ -1,7 +1,5 @@
 -- The part taken apart: its channels' heads and what it has beside its channels, which go by value, and the channels' tables in rows, which are lent.
 use Rattle.std.specs.Prelude.{ℕ, ◌<◌, Bool, List, [], ◌∷◌, map, ◌≡◌, length, get_or, set}
-use Rattle.std.specs.Borrow.{Bor}
-use denote.Triple.Both.{Both}
 use Rattle.rules.specs.Numbers.{memory_size}
 use Rattle.rules.specs.declared.wires.Edge.{Edge}
 use Rattle.steps.specs.declared.map.Op.{Op}
@@ -89,26 +87,19 @@ gathered h t = record {
 
 -- ---- rows that are lent to a call, always in the order SLATABLE, TRANCONFIG, STATUS, BYTECOUNT
 
--- one of the four, as it is lent
-abbrev pub Table : Type 0
-Table = Bor (List (List ℕ))
-
 -- what stands in them, for a `requires`
-abbrev pub rows_in : Table → Table → Table → Table → Rows
-rows_in sla lens status counts = as_rows sla.now lens.now status.now counts.now
-
-abbrev pub Lent : Type 0
-Lent = Both Table Table
+abbrev pub rows_in : List (List ℕ) → List (List ℕ) → List (List ℕ) → List (List ℕ) → Rows
+rows_in sla lens status counts = as_rows sla lens status counts
 
 -- and for an `ensures`: what the call finds in them, and what it leaves
-abbrev pub rows_found : Lent → Lent → Lent → Lent → Rows
-rows_found sla lens status counts = rows_in sla.entry lens.entry status.entry counts.entry
+abbrev pub rows_found : List (List ℕ) → List (List ℕ) → List (List ℕ) → List (List ℕ) → Rows
+rows_found sla lens status counts = rows_in sla lens status counts
 
-abbrev pub rows_left : Lent → Lent → Lent → Lent → Rows
-rows_left sla lens status counts = rows_in sla.exit lens.exit status.exit counts.exit
+abbrev pub rows_left : List (List ℕ) → List (List ℕ) → List (List ℕ) → List (List ℕ) → Rows
+rows_left sla lens status counts = rows_in sla lens status counts
 
 -- the part that a call finds in the heads that it gets and the rows that it is lent
-abbrev pub found : Heads → Lent → Lent → Lent → Lent → Part
+abbrev pub found : Heads → List (List ℕ) → List (List ℕ) → List (List ℕ) → List (List ℕ) → Part
 found h sla lens status counts = gathered h (rows_found sla lens status counts)
 
 -- ---- a step of the part, in heads and rows

@@ -27,8 +27,8 @@ pub fn spread(
     status: &mut [[u8; 64]; 3],
     counts: &mut [[u8; 64]; 3],
 ) -> Heads
-    requires { Three (rows_in sla lens status counts) }
-    ensures { Holds part result (rows_left sla lens status counts) }
+    requires { Three (rows_in sla.old lens.old status.old counts.old) }
+    ensures { Holds part result (rows_left sla.new lens.new status.new counts.new) }
 {
     let channels = part.channels;
     let first = channels[0];
@@ -89,7 +89,7 @@ fn channel_at(
     c: usize,
 ) -> Channel
     requires { c < 3 }
-    ensures { result ≡ channel_of heads (rows_found sla lens status counts) c }
+    ensures { result ≡ channel_of heads (rows_found sla.now lens.now status.now counts.now) c }
 {
     let h = heads.channels[c];
     let slatable = sla[c];
@@ -113,7 +113,7 @@ pub fn gather(
     status: &[[u8; 64]; 3],
     counts: &[[u8; 64]; 3],
 ) -> Part
-    ensures { result ≡ gathered heads (rows_found sla lens status counts) }
+    ensures { result ≡ gathered heads (rows_found sla.now lens.now status.now counts.now) }
 {
     let first = channel_at(heads, sla, lens, status, counts, 0);
     let second = channel_at(heads, sla, lens, status, counts, 1);
@@ -223,9 +223,9 @@ fn put_ctrl(
     reg: Ctrl,
     v: u8,
 ) -> HeadsStepped
-    requires { Ready heads (rows_in sla lens status counts) mem.old }
-    ensures { Gives (ctrl_put (found heads sla lens status counts) reg v) result (rows_left sla lens status counts)
-        × (mem.new ≡ ctrl_store (found heads sla lens status counts) mem.old reg v) }
+    requires { Ready heads (rows_in sla.old lens.old status.old counts.old) mem.old }
+    ensures { Gives (ctrl_put (found heads sla.old lens.old status.old counts.old) reg v) result (rows_left sla.new lens.new status.new counts.new)
+        × (mem.new ≡ ctrl_store (found heads sla.old lens.old status.old counts.old) mem.old reg v) }
 {
     let preset = is_ctrlpreset(reg);
     if rules::resets(preset, v, heads.common.key) {
@@ -244,8 +244,8 @@ fn trigger(
     counts: &mut [[u8; 64]; 3],
     edge: Edge,
 ) -> HeadsStepped
-    requires { (length heads.channels ≡ 3) × Three (rows_in sla lens status counts) × (part_in (gathered heads (rows_in sla lens status counts)) ≡ true) }
-    ensures { Gives (trigger_step (found heads sla lens status counts) edge) result (rows_left sla lens status counts) }
+    requires { (length heads.channels ≡ 3) × Three (rows_in sla.now lens.now status.old counts.old) × (part_in (gathered heads (rows_in sla.now lens.now status.old counts.old)) ≡ true) }
+    ensures { Gives (trigger_step (found heads sla.now lens.now status.old counts.old) edge) result (rows_left sla.now lens.now status.new counts.new) }
 {
     if heads.unarmed() {
         return tell(heads, DONE, 0);
@@ -262,8 +262,8 @@ fn trigger_each(
     counts: &mut [[u8; 64]; 3],
     edge: Edge,
 ) -> HeadsStepped
-    requires { Three (rows_in sla lens status counts) × (part_in (gathered heads (rows_in sla lens status counts)) ≡ true) }
-    ensures { Gives (trigger_step (found heads sla lens status counts) edge) result (rows_left sla lens status counts) }
+    requires { Three (rows_in sla.now lens.now status.old counts.old) × (part_in (gathered heads (rows_in sla.now lens.now status.old counts.old)) ≡ true) }
+    ensures { Gives (trigger_step (found heads sla.now lens.now status.old counts.old) edge) result (rows_left sla.now lens.now status.new counts.new) }
 {
     let a = heads.channels[0];
     let x = edge_at(a, sla, lens, status, counts, 0, edge);
@@ -284,9 +284,9 @@ pub fn all(
     mem: &mut [u8],
     t: Wide,
 ) -> HeadsStepped
-    requires { Ready heads (rows_in sla lens status counts) mem.old }
-    ensures { Gives (all_served (found heads sla lens status counts) t) result (rows_left sla lens status counts)
-        × (mem.new ≡ all_stored (found heads sla lens status counts) mem.old t) }
+    requires { Ready heads (rows_in sla.old lens.old status.old counts.old) mem.old }
+    ensures { Gives (all_served (found heads sla.old lens.old status.old counts.old) t) result (rows_left sla.new lens.new status.new counts.new)
+        × (mem.new ≡ all_stored (found heads sla.old lens.old status.old counts.old) mem.old t) }
 {
     match t {
         Wide::CtrlWrite(reg, v) => { put_ctrl(heads, sla, lens, status, counts, mem, reg, v) }
@@ -307,9 +307,9 @@ pub(crate) fn serve(
     mem: &mut [u8],
     t: Target,
 ) -> HeadsStepped
-    requires { Ready heads (rows_in sla lens status counts) mem.old × InPart t }
-    ensures { Gives (part_served (found heads sla lens status counts) mem.old t) result (rows_left sla lens status counts)
-        × (mem.new ≡ part_stored (found heads sla lens status counts) mem.old t) }
+    requires { Ready heads (rows_in sla.old lens.old status.old counts.old) mem.old × InPart t }
+    ensures { Gives (part_served (found heads sla.old lens.old status.old counts.old) mem.old t) result (rows_left sla.new lens.new status.new counts.new)
+        × (mem.new ≡ part_stored (found heads sla.old lens.old status.old counts.old) mem.old t) }
 {
     let left = heads.forget(t);
     match t {
@@ -335,8 +335,8 @@ pub fn one(
     c: u8,
     op: Op,
 ) -> OneStepped
-    requires { OneReady h (rows_in sla lens status counts) mem.old c }
-    ensures { OneGives h k (rows_found sla lens status counts) mem.old c op result (rows_left sla lens status counts) mem.new }
+    requires { OneReady h (rows_in sla.old lens.old status.old counts.old) mem.old c }
+    ensures { OneGives h k (rows_found sla.old lens.old status.old counts.old) mem.old c op result (rows_left sla.new lens.new status.new counts.new) mem.new }
 {
     let i = c as usize;
     let start = BUFFER * i;
@@ -364,8 +364,8 @@ fn edge_at(
     c: usize,
     edge: Edge,
 ) -> Headed
-    requires { (c < 3) × (in_range (channel_in h (rows_in sla lens status counts) c) ≡ true) }
-    ensures { EdgeGives h (rows_found sla lens status counts) c edge result (rows_left sla lens status counts) }
+    requires { (c < 3) × (in_range (channel_in h (rows_in sla.now lens.now status.old counts.old) c) ≡ true) }
+    ensures { EdgeGives h (rows_found sla.now lens.now status.old counts.old) c edge result (rows_left sla.now lens.now status.new counts.new) }
 {
     trigger_lent(h, &sla[c], &lens[c], &mut status[c], &mut counts[c], edge)
 }
@@ -379,8 +379,8 @@ fn reset(
     counts: &mut [[u8; 64]; 3],
     mem: &mut [u8],
 ) -> HeadsStepped
-    requires { Three (rows_in sla lens status counts) × (length mem.old ≡ memory_size) }
-    ensures { Gives (plain_part (fresh_part d)) result (rows_left sla lens status counts) × (mem.new ≡ wiped) }
+    requires { Three (rows_in sla.old lens.old status.old counts.old) × (length mem.old ≡ memory_size) }
+    ensures { Gives (plain_part (fresh_part d)) result (rows_left sla.new lens.new status.new counts.new) × (mem.new ≡ wiped) }
 {
     rules::wipe(mem);
     tell(spread(Part::new(d), sla, lens, status, counts), DONE, 0)

@@ -106,9 +106,9 @@ fn perform(
     mem: &mut [u8],
     t: Rest,
 ) -> HeadsStepped
-    requires { Ready heads (rows_in sla lens status counts) mem.old }
-    ensures { Gives (rest_served (found heads sla lens status counts) t) result (rows_left sla lens status counts)
-        × (mem.new ≡ rest_stored (found heads sla lens status counts) mem.old t) }
+    requires { Ready heads (rows_in sla.old lens.old status.old counts.old) mem.old }
+    ensures { Gives (rest_served (found heads sla.old lens.old status.old counts.old) t) result (rows_left sla.new lens.new status.new counts.new)
+        × (mem.new ≡ rest_stored (found heads sla.old lens.old status.old counts.old) mem.old t) }
 {
     match t {
         Rest::All(w) => part::all(heads, sla, lens, status, counts, mem, w),

@@ -180,10 +180,10 @@ controlled_in : (c : Channel) (k : Command) → In c → Good (controlled c k)
 unfolding controlled ask_of Asks
 controlled_in c k h =
     let g = control_in c k h in
-    asked_in_lem _ _ g
+    asked_in_lem (ready c k) _ g
     (pick_holds (Asks (ready c k)) (overrun_of k.aiptrrst (data_place c.head c.tranconfig))
     (λ _. tt)
-    (λ _. asks _ g c.head.walk.phase k (te_after c.head k) (phase_in (ready c k) [] g)))
+    (λ _. asks (ready c k) g c.head.walk.phase k (te_after c.head k) (phase_in (ready c k) [] g)))
 
 -- ---- reads
 read_in : (c : Channel) (m : List ℕ) (reg : Register) → read_refusal c.head.ptrs c.tranconfig reg ≡ 0 → In c → Good (read_by c m reg)

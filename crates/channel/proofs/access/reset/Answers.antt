@@ -1,0 +1,8 @@
+-- `channel::access::reset` meets its contract.
+use Rattle.channel.specs.State.{zeros}
+use borrow.Author.Rules.{rules}
+use Rattle.channel.proofs.access.reset.Goals as goal
+
+pub returns : goal.returns
+unfolding zeros
+returns c = rw (c.answer.ensures, c.new.ensures, c.wipe.ensures, c.requires)

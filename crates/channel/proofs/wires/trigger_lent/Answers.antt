@@ -1,0 +1,13 @@
+-- `channel::wires::trigger_lent` meets its contract.
+use Rattle.channel.specs.Laws.Range.{range_count}
+use Rattle.channel.specs.Wires.{triggered}
+use borrow.Author.Rules.{rules}
+use Rattle.channel.proofs.wires.trigger_lent.Goals as goal
+
+pub beat-requires : goal.beat-requires
+unfolding triggered
+beat-requires c = range_count _ c.requires
+
+pub returns : goal.returns
+unfolding triggered
+returns c = rw (← c.edge_beat-b.ensures) c.beat.ensures
