@@ -1,4 +1,6 @@
 // The heads of the part's channels and what the part has beside its channels; and what a channel's answer is to them.
+#![tactic(auto)]
+
 ghost use Rattle.std.specs.Prelude.{false, [], ◌∷◌, ◌≡◌, ◌<◌};
 ghost use Rattle.laws.specs.Pick.{if◌then◌else◌};
 ghost use Rattle.rules.specs.Registers.{active_of};

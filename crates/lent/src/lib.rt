@@ -1,4 +1,6 @@
 // The step over a record that is lent: thin over the step by value.
+#![tactic(auto)]
+
 ghost use Rattle.std.specs.Prelude.{◌≡◌};
 ghost use Rattle.channel.specs.Step.{step_of, bytes_after};
 
