@@ -1,4 +1,6 @@
 // Document 01's letters for an action, as the script program prints them.
+#![tactic(auto)]
+
 ghost use Rattle.std.specs.Prelude.{◌≡◌, ◌<◌, ◌≤◌};
 ghost use Rattle.letters.specs.Letters.{digit_of, one_letter, two_letters, one_and_byte, two_and_byte, text_of};
 

@@ -1,4 +1,6 @@
 // The part, a PCA9663 or a PCU9669: three channels over one lent memory.
+#![tactic(auto)]
+
 mod rows;
 mod state;
 mod step;

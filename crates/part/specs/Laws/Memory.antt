@@ -6,7 +6,7 @@ use Rattle.part.specs.State.{window, put_window}
 
 -- a channel's window is a whole one
 pub fits : (c : ℕ) (m : List ℕ) → c < 3 → length m ≡ memory_size → buffer_size * c + buffer_size ≤ length m
-fits c m = windows.window-fits buffer_size 3 c m
+fits c m = windows.window_fits buffer_size 3 c m
 
 pub length-window : (c : ℕ) (m : List ℕ) → buffer_size * c + buffer_size ≤ length m → length (window c m) ≡ buffer_size
 unfolding window
@@ -14,17 +14,17 @@ length-window c m = windows.length-window buffer_size c m
 
 pub length-put : (c : ℕ) (l m : List ℕ) → length l ≡ buffer_size → buffer_size * c + buffer_size ≤ length m → length (put_window c l m) ≡ length m
 unfolding put_window
-length-put c l m = windows.length-put-window buffer_size c l m
+length-put c l m = windows.length-put_window buffer_size c l m
 
 -- another channel's bytes are as they were
 pub window_other : (c d : ℕ) (l m : List ℕ) → length l ≡ buffer_size → buffer_size * c + buffer_size ≤ length m → (c ≡ d → ⊥)
     → window d (put_window c l m) ≡ window d m
 unfolding window put_window
-window_other c d l m = windows.window-other buffer_size c d l m
+window_other c d l m = windows.window_other buffer_size c d l m
 
 -- two channels' bytes are put in either order
 pub put-put : (c d : ℕ) (l k m : List ℕ) → length l ≡ buffer_size → length k ≡ buffer_size
     → buffer_size * c + buffer_size ≤ length m → buffer_size * d + buffer_size ≤ length m → (c ≡ d → ⊥)
     → put_window d k (put_window c l m) ≡ put_window c l (put_window d k m)
 unfolding put_window
-put-put c d l k m = windows.put-windows buffer_size c d l k m
+put-put c d l k m = windows.put_windows buffer_size c d l k m
