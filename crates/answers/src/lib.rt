@@ -1,4 +1,6 @@
 // The lines that the script program prints: the header, and a line for each answer.
+#![tactic(auto)]
+
 ghost use Rattle.std.specs.Prelude.{◌≡◌, ◌+◌, ◌<◌, ◌≤◌, length, take};
 ghost use Rattle.answers.specs.Answer.{Put, decimal_of, level_of, middle_of, busy_of, only_if, entry_of, action_of, or_of, actions_of, answer_line, header, answer_room, roomy, text_if, no_answer};
 

@@ -1,4 +1,6 @@
 // Document 02, request Five: sequence files, written from an Idle channel and read into one.
+#![tactic(auto)]
+
 mod format;
 mod single;
 mod whole;

@@ -149,7 +149,7 @@ module _ (s : State) (g : Accepted s) where
       rw (
         get_or-set_other (left_for s.part c w.writes).channels c d (w.after (own_of s c)).channel blank (λ e. ne (sym e)),
         left_other s.part c d w.writes ne,
-        memory.window-other c d (w.after (own_of s c)).bytes s.memory (sound c w h).whole (fits c h) ne,
+        memory.window_other c d (w.after (own_of s c)).bytes s.memory (sound c w h).whole (fits c h) ne,
       )
 
   -- A WORK GIVES THE SAME WITH ANOTHER CHANNEL'S BEFORE IT

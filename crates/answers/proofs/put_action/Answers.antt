@@ -1,0 +1,13 @@
+-- `answers::put_action` meets its contract.
+use Rattle.answers.proofs.Laws.Writing.{puts}
+use Rattle.answers.specs.Answer.{action_of}
+use borrow.Author.Rules.{rules}
+use Rattle.answers.proofs.put_action.Goals as goal
+
+pub returns-then-busy : goal.returns-then-busy
+unfolding action_of
+returns-then-busy c = (search puts, search rules)
+
+pub returns : goal.returns
+unfolding action_of
+returns c = (search puts, search rules)

@@ -1,0 +1,10 @@
+-- `answers::put_if` meets its contract.
+use Rattle.answers.proofs.Laws.Writing.{puts}
+use borrow.Author.Rules.{rules}
+use Rattle.answers.proofs.put_if.Goals as goal
+
+pub returns-then-wanted : goal.returns-then-wanted
+returns-then-wanted c = (search puts, search rules)
+
+pub returns : goal.returns
+returns c = (search puts, search rules)

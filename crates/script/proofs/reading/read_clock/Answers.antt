@@ -1,0 +1,17 @@
+-- `script::reading::read_clock` meets its contract.
+use Rattle.laws.specs.Cases.{cases}
+use Rattle.script.specs.Grammar.{clock_line}
+use borrow.Author.Rules.{rules}
+use Rattle.script.proofs.reading.read_clock.Goals as goal
+
+pub returns-then-in_form : goal.returns-then-in_form
+unfolding clock_line
+returns-then-in_form c = search cases depth 12
+
+pub returns-then-in_form-2 : goal.returns-then-in_form-2
+unfolding clock_line
+returns-then-in_form-2 c = search cases depth 12
+
+pub returns : goal.returns
+unfolding clock_line
+returns c = search cases depth 12
