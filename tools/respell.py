@@ -121,11 +121,13 @@ def turned(text, new, skip):
         if token not in new or token in skip:
             return token
         # behind a dot stands a member; it is ours where a module or a value's own field stands before it
-        if before.endswith(".") and not re.search(r"(?:^|[\s({\[,])(?:Rattle\.)?[A-Za-z_.0-9]*[A-Z][A-Za-z0-9]*\.$", before) and token not in FIELDS:
+        named = re.search(r"(?<![\w.'])([a-z]\w*)\.$", before)
+        if before.endswith(".") and not (named and named.group(1) in aliases) and not re.search(r"(?:^|[\s({\[,])(?:Rattle\.)?[A-Za-z_.0-9]*[A-Z][A-Za-z0-9]*\.$", before) and token not in FIELDS:
             return token
         return new[token]
 
     out, text_now = [], text
+    aliases = set(re.findall(r"^use [^\n{]* as ([a-z]\w*)$", text, re.M)) - {"tie", "goal"}
     for line in text.split("\n"):
         text_now = line
         # in a comment a word with a dash may be plain English

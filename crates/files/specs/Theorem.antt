@@ -28,7 +28,7 @@ of_its_blocks f r = record { blocks = readable_blocks f r; whole = readable_is f
 
 -- READ THEN WRITTEN GIVES THE FILE
 pub read_then_write : (f : List ℕ) → Readable f → (o : Own) → IdleOwn o → (out : List ℕ) → length f ≤ length out → ReadWritten f o out
-read_then_write = trips.read-written
+read_then_write = trips.read_written
 
 -- WRITTEN THEN READ GIVES THE CHANNEL'S FIRST COUNT TRANSACTIONS, and zeros: what o wrote is read into any Idle channel q
 pub write_then_read : (o : Own) → Resting o → (out : List ℕ) → deed_number (save_deed out) o ≡ 0 → (q : Own) → IdleOwn q → WrittenRead (file_from o) o out q
@@ -36,18 +36,18 @@ write_then_read o h out z q i = trips.written_read o h out (trips.own_room o h o
 
 -- A LOAD ANSWERS 10 EXACTLY WHEN NO IDLE CHANNEL IN RANGE WRITES THIS FILE
 pub ten_means_nobody : (f : List ℕ) (o : Own) → Resting o → deed_number (load_deed f) o ≡ not_afile → (q : Own) → Resting q → Writes q f → ⊥
-ten_means_nobody f o h e q s w = trips.written-not-10 f o h q s w e
+ten_means_nobody f o h e q s w = trips.written_not_10 f o h q s w e
 
 pub nobody_means_ten : (f : List ℕ) (o : Own) → Resting o → ((q : Own) → Resting q → Writes q f → ⊥) → deed_number (load_deed f) o ≡ not_afile
-nobody_means_ten f o h none = trips.ten-or f o h (λ e. none (loaded_own f o) (trips.loaded-resting f o h e) (trips.loaded-writes f o h e))
+nobody_means_ten f o h none = trips.ten_or f o h (λ e. none (loaded_own f o) (trips.loaded_resting f o h e) (trips.loaded-writes f o h e))
 
 -- and what is not answered 10 the channel writes into which it is read
 pub not_ten_is_written : (f : List ℕ) (o : Own) → Resting o → (deed_number (load_deed f) o ≡ not_afile → ⊥) → Resting (loaded_own f o) × Writes (loaded_own f o) f
-not_ten_is_written f o h e = (trips.loaded-resting f o h e, trips.loaded-writes f o h e)
+not_ten_is_written f o h e = (trips.loaded_resting f o h e, trips.loaded-writes f o h e)
 
 -- A READ IS AS IF TYPED: from reset pointers each of the writes is answered 0, and they leave the file's tables and bytes over what was there
 pub as_if_typed : (k : ℕ) → k < 3 → (f : List ℕ) → Readable f → (o : Own) → Resting o → Rewound o.channel → TypedIn k f o
-as_if_typed = typing.typed-in
+as_if_typed = typing.typed_in
 
 reset_rests : (x : Straps) → Resting (reset_own x)
 reset_rests x = record {
@@ -73,15 +73,15 @@ load_sound f = (load_work f).keeps
 
 -- THE OTHER CHANNELS ARE UNTOUCHED by a read, and so are BE, CTRLINTMSK and every key
 pub load_untouched : (s : State) → Accepted s → (c : ℕ) (f : List ℕ) → Untouched c s (work_done s c (load_work f))
-load_untouched s g c f = stays.untouched s g c (load_deed f) (stays.load-calm f) (λ o. refl)
+load_untouched s g c f = stays.untouched s g c (load_deed f) (stays.load_calm f) (λ o. refl)
 
 -- A WRITE LEAVES THE PART AND THE MEMORY
 pub save_leaves : (s : State) (c : ℕ) (out : List ℕ) → work_done s c (save_work out) ≡ s
-save_leaves s c out = idle-leaves s c (save_deed out) (stays.save-calm out) (λ o. refl)
+save_leaves s c out = idle-leaves s c (save_deed out) (stays.save_calm out) (λ o. refl)
 
 -- AT A REFUSAL ALL MEMORY STAYS, and the part: of a read, and of a write, whose output stays too
 pub load-refused : (s : State) (c : ℕ) (f : List ℕ) → ((work_reply s c (load_work f)).answer.number ≡ 0 → ⊥) → work_done s c (load_work f) ≡ s
-load-refused s c f z = (refused-leaves s c (load_deed f) (stays.load-calm f) z).0
+load-refused s c f z = (refused-leaves s c (load_deed f) (stays.load_calm f) z).0
 
 pub save_refused : (s : State) (c : ℕ) (out : List ℕ) → ((work_reply s c (save_work out)).answer.number ≡ 0 → ⊥) → (work_reply s c (save_work out)).out ≡ out
-save_refused s c out z = (refused-leaves s c (save_deed out) (stays.save-calm out) z).1
+save_refused s c out z = (refused-leaves s c (save_deed out) (stays.save_calm out) z).1

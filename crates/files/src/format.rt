@@ -161,11 +161,22 @@ pub(crate) fn fault_number(f: Fault) -> u8
 
 // ---- bytes moved: each once, from slice to slice
 
+// Puts x; the bytes behind it stay.
+pub(crate) fn copy(x: &[u8], out: &mut [u8]) -> usize
+    requires { length x.now ≤ length out.old }
+    ensures len { result ≡ length x.now }
+    ensures put { out.new ≡ over x.now out.old }
+{
+    let n = x.len();
+    out[..n].copy_from_slice(x);
+    n
+}
+
 // Puts x and then y; the bytes behind them stay.
 pub(crate) fn put_two(out: &mut [u8], x: &[u8], y: &[u8])
     requires { length x.now + length y.now ≤ length out.old }
     ensures { out.new ≡ over (x.now ++ y.now) out.old }
 {
-    let n = bytes::copy(x, out);
-    bytes::copy(y, &mut out[n..]);
+    let n = copy(x, out);
+    copy(y, &mut out[n..]);
 }

@@ -13,7 +13,7 @@ ghost use Rattle.files.specs.Work.{rewound_head, loaded_sla, loaded_conf, loaded
 ghost use Rattle.files.specs.Deeds.{load_work, save_work};
 ghost use Rattle.files.specs.Facts.{Filed, Saved};
 
-use crate::format::{HEADER, NO_ROOM, count, fault_number, fault_of, header, put_two};
+use crate::format::{HEADER, NO_ROOM, copy, count, fault_number, fault_of, header, put_two};
 use channel::{Channel, Stepped, range_number};
 use head::Head;
 use rules::{BUFFER, DONE, LOCKED, Phase, active, byte, start_of};
@@ -47,7 +47,7 @@ fn slatable_of(addresses: &[u8]) -> [u8; 64]
     ensures { result ≡ over addresses.now (replicate 64 0) }
 {
     let mut table = [0u8; 64];
-    bytes::copy(addresses, &mut table);
+    copy(addresses, &mut table);
     table
 }
 
@@ -58,7 +58,7 @@ fn tranconfig_of(n: u8, lengths: &[u8]) -> [u8; 65]
 {
     let mut table = [0u8; 65];
     table[0] = n;
-    bytes::copy(lengths, &mut table[1..]);
+    copy(lengths, &mut table[1..]);
     table
 }
 
@@ -83,7 +83,7 @@ fn fill(mem: &mut [u8], content: &[u8])
     requires { length content.now ≤ length mem.old }
     ensures { mem.new ≡ over content.now (replicate (length mem.old) 0) }
 {
-    let n = bytes::copy(content, mem);
+    let n = copy(content, mem);
     rules::wipe(&mut mem[n..]);
 }
 

@@ -54,4 +54,4 @@ mask_unheeded s t h a =
 
 pub mask_unheeded_run : (s t : State) → AlikeStates s t → (l : List Step) → SameRun s t l
 mask_unheeded_run s t h [] = tt
-mask_unheeded_run s t h (a ∷ l) = let x = mask_unheeded s t h a in (x, mask_unheeded_run _ _ x.states l)
+mask_unheeded_run s t h (a ∷ l) = let x = mask_unheeded s t h a in (x, mask_unheeded_run (the_part.after s a) (the_part.after t a) x.states l)

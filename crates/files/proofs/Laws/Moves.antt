@@ -16,10 +16,6 @@ use Rattle.files.specs.Laws.Kept.{length_over}
 
 -- ---- bytes put over others
 
--- what `bytes::copy` leaves
-pub copied : (x l m : List ℕ) → m ≡ take (length x) x ++ drop (length x) l → m ≡ over x l
-copied x l m e = e ∙ ap (λ (t : List ℕ). t ++ drop (length x) l) (take-length x)
-
 -- the rest of m from n on, lent as a part, is all of it
 pub rest_all : (m : List ℕ) (n : ℕ) → take (length m - n) (drop n m) ≡ drop n m
 rest_all m n = take_all (length m - n) (drop n m) (let e = length-drop n m in omega (arith, e))
