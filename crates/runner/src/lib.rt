@@ -1,4 +1,6 @@
 // A script run on the part: the lines of a block of bytes, each a step, and the text of their answers.
+#![tactic(auto)]
+
 mod answering;
 mod lines;
 
