@@ -1,1 +1,3 @@
+#![tactic(auto)]
+
 // No code: the definitions and laws of specs/ serve the crates above.

@@ -1,6 +1,5 @@
 -- `bounds::clear_after` meets its contract: what is asked from i is what is asked from the start.
 use Prim.Native.Nat.{◌-◌}
-use Rattle.bounds.specs.Laws.Range.{clears}
 use Rattle.bounds.specs.Range.{clear_after}
 use mathlib.Core.Path.{◌≡◌}
 use Rattle.bounds.proofs.clear_after.Given as goal

@@ -1,7 +1,6 @@
 -- `bounds::counting` meets its contract.
 use Rattle.laws.specs.Cases.{cases}
 use Rattle.bounds.specs.Range.{counting_of}
-use borrow.Author.Rules.{rules}
 use Rattle.bounds.proofs.counting.Goals as goal
 
 pub returns-then-te : goal.returns-then-te

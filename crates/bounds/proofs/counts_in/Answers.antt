@@ -1,7 +1,6 @@
 -- `bounds::counts_in` meets its contract.
 use Rattle.laws.specs.Cases.{cases}
 use Rattle.bounds.specs.Range.{counts_in}
-use borrow.Author.Rules.{rules}
 use Rattle.bounds.proofs.counts_in.Goals as goal
 
 pub returns-then-counted_in : goal.returns-then-counted_in

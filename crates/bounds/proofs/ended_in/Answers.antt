@@ -1,7 +1,6 @@
 -- `bounds::ended_in` meets its contract.
 use Rattle.laws.specs.Cases.{cases}
 use Rattle.bounds.specs.Range.{ended_in}
-use borrow.Author.Rules.{rules}
 use Rattle.bounds.proofs.ended_in.Goals as goal
 
 pub returns-then-counting : goal.returns-then-counting

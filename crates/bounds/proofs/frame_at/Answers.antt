@@ -2,7 +2,6 @@
 use Rattle.laws.specs.Cases.{cases}
 use Rattle.bounds.specs.Laws.Range.{ranges}
 use Rattle.bounds.specs.Range.{frame_at}
-use borrow.Author.Rules.{rules}
 use Rattle.bounds.proofs.frame_at.Goals as goal
 
 pub counts_in-requires : goal.counts_in-requires

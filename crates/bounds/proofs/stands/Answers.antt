@@ -1,7 +1,6 @@
 -- `bounds::stands` meets its contract.
 use Rattle.laws.specs.Cases.{cases}
 use Rattle.bounds.specs.Range.{standing}
-use borrow.Author.Rules.{rules}
 use Rattle.bounds.proofs.stands.Goals as goal
 
 pub returns-then-n-count : goal.returns-then-n-count

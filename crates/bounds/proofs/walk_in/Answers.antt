@@ -1,7 +1,6 @@
 -- `bounds::walk_in` meets its contract.
 use Rattle.laws.specs.Cases.{cases}
 use Rattle.bounds.specs.Range.{walk_in}
-use borrow.Author.Rules.{rules}
 use Rattle.bounds.proofs.walk_in.Goals as goal
 
 pub returns-then-ended_in : goal.returns-then-ended_in

@@ -1,5 +1,4 @@
 -- `interrupt::calm` meets its contract: the word is 0 where no flag is set.
-use borrow.Author.Rules.{rules}
 use mathlib.Core.Path.{refl}
 use Rattle.interrupt.specs.Laws.Interrupt.{calm_word}
 use Rattle.interrupt.proofs.calm.Goals as goal

@@ -1,5 +1,4 @@
 -- `interrupt::causes` meets its contract: row by row.
-use borrow.Author.Rules.{rules}
 use Rattle.interrupt.specs.Interrupt.{causes_of}
 use Rattle.interrupt.specs.Laws.Interrupt.{rows}
 use Rattle.interrupt.proofs.causes.Goals as goal

@@ -4,7 +4,6 @@ use mathlib.Core.Bool.{Bool, true, false}
 use mathlib.Core.Path.{◌≡◌, refl}
 use mir.Val.{bool_byte}
 use native.Mathlib.Omega.{arith}
-use borrow.Author.Rules.{rules}
 use Rattle.laws.specs.Pick.{if◌then◌else◌}
 use Rattle.rules.specs.Registers.{weigh}
 use Rattle.interrupt.proofs.number.Goals as goal

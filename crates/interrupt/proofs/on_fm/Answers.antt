@@ -1,7 +1,6 @@
 -- `interrupt::on_fm` meets its contract.
 use Rattle.laws.specs.Cases.{cases}
 use Rattle.interrupt.specs.Interrupt.{on_fm}
-use borrow.Author.Rules.{rules}
 use Rattle.interrupt.proofs.on_fm.Goals as goal
 
 pub returns-then-is_fm : goal.returns-then-is_fm

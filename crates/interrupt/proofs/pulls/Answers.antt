@@ -1,5 +1,4 @@
 -- `interrupt::pulls` meets its contract: row by row.
-use borrow.Author.Rules.{rules}
 use Rattle.interrupt.specs.Interrupt.{pulls_of}
 use Rattle.interrupt.specs.Laws.Interrupt.{rows}
 use Rattle.interrupt.proofs.pulls.Goals as goal

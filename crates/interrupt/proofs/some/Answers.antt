@@ -1,10 +1,4 @@
 -- `interrupt::some` meets its contract: no row before the i-th holds.
-use Prim.Native.Nat.{◌-◌, ◌≤◌}
-use lib.ListN.{length, drop}
-use mathlib.Core.Path.{◌≡◌, refl}
-use native.Mathlib.Omega.{arith}
-use borrow.Author.Rules.{rules}
-use Rattle.interrupt.specs.Interrupt.{some_of}
 use Rattle.interrupt.specs.Laws.Interrupt.{looked, holds_behind}
 use Rattle.interrupt.proofs.some.Goals as goal
 

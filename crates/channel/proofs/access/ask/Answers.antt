@@ -1,6 +1,5 @@
 -- `channel::access::ask` meets its contract.
 use Rattle.channel.specs.Access.{asked}
-use borrow.Author.Rules.{rules}
 use Rattle.channel.proofs.access.ask.Goals as goal
 
 pub returns-in-Nothing : goal.returns-in-Nothing

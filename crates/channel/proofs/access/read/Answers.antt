@@ -1,10 +1,8 @@
 -- `channel::access::read` meets its contract.
 use Rattle.channel.proofs.Laws.Access.{accepted_count, guarded_no, guarded-yes}
-use Rattle.channel.proofs.Laws.Step.{keeps, known_here}
+use Rattle.channel.proofs.Laws.Step.{keeps}
 use Rattle.channel.specs.Access.{read_of}
 use Rattle.channel.specs.Step.{read_at}
-use borrow.Author.Rules.{rules}
-use mathlib.Core.Path.{◌∙◌, sym}
 use Rattle.channel.proofs.access.read.Goals as goal
 
 pub returns-in_default : goal.returns-in_default

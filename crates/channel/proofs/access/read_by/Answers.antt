@@ -1,7 +1,6 @@
 -- `channel::access::read_by` meets its contract.
 use Rattle.channel.proofs.Laws.Access.{reads}
 use Rattle.channel.specs.Access.{read_by}
-use borrow.Author.Rules.{rules}
 use Rattle.channel.proofs.access.read_by.Goals as goal
 
 pub read_sla-requires : goal.read_sla-requires

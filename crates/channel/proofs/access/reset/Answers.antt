@@ -1,6 +1,5 @@
 -- `channel::access::reset` meets its contract.
 use Rattle.channel.specs.State.{zeros}
-use borrow.Author.Rules.{rules}
 use Rattle.channel.proofs.access.reset.Goals as goal
 
 pub returns : goal.returns

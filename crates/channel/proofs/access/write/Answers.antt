@@ -4,7 +4,6 @@ use Rattle.channel.proofs.Laws.Step.{known_here}
 use Rattle.channel.specs.Range.{in_range}
 use Rattle.head.specs.Range.{head_in}
 use Rattle.channel.specs.Step.{write_at}
-use borrow.Author.Rules.{rules}
 use mathlib.Core.Path.{sym, ◌∙◌}
 use Rattle.channel.proofs.access.write.Goals as goal
 
@@ -26,10 +25,10 @@ returns-then-n-ne0 c = write-refused _ _ _ _ _ _ _ c.in-Here.is c.is_preset-pres
 pub write_by-requires : goal.write_by-requires
 unfolding in_range head_in
 write_by-requires c = (
-      rw c.with_key-g.ensures (record { ranged = c.requires.0.ranged; whole = c.requires.0.whole }),
-      known_here _ _ c.requires.1 c.in-Here.is,
-      sym c.refusal-n.ensures ∙ c.if-n-ne0.false,
-    )
+  rw c.with_key-g.ensures (record { ranged = c.requires.0.ranged; whole = c.requires.0.whole }),
+  known_here _ _ c.requires.1 c.in-Here.is,
+  sym c.refusal-n.ensures ∙ c.if-n-ne0.false,
+)
 
 pub returns : goal.returns
 returns c = write_done _ _ _ _ _ _ _ c.in-Here.is c.is_preset-preset.ensures c.resets.ensures _ c.if-resets.false _ _

@@ -1,7 +1,6 @@
 -- `channel::access::write_by` meets its contract.
 use Rattle.channel.proofs.Laws.Access.{accepted_count, accepted_sel, write_conf, write_data, write_sel, write_sla}
 use Rattle.channel.specs.Access.{written_by}
-use borrow.Author.Rules.{rules}
 use Rattle.channel.proofs.access.write_by.Goals as goal
 
 pub control-requires : goal.control-requires

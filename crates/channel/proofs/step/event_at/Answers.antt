@@ -2,7 +2,6 @@
 use Rattle.channel.proofs.Laws.Step.{turn_meets}
 use Rattle.channel.specs.Step.{event_at}
 use Rattle.laws.specs.Cases.{pick-false, pick_true}
-use borrow.Author.Rules.{rules}
 use borrow.Author.Tests.{le-ltb, lt-ltb}
 use Rattle.channel.proofs.step.event_at.Goals as goal
 

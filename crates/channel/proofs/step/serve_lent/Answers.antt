@@ -1,6 +1,5 @@
 -- `channel::step::serve_lent` meets its contract.
 use Rattle.channel.specs.Step.{served_by}
-use borrow.Author.Rules.{rules}
 use Rattle.channel.proofs.step.serve_lent.Goals as goal
 
 pub returns-in-Write : goal.returns-in-Write

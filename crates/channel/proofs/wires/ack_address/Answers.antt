@@ -1,7 +1,6 @@
 -- `channel::wires::ack_address` meets its contract.
 use Rattle.channel.specs.Wires.{ack_address}
 use Rattle.laws.specs.Cases.{pick-false, pick_true}
-use borrow.Author.Rules.{rules}
 use mathlib.Core.Path.{◌∙◌, sym}
 use Rattle.channel.proofs.wires.ack_address.Goals as goal
 

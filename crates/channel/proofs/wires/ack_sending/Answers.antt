@@ -1,6 +1,5 @@
 -- `channel::wires::ack_sending` meets its contract.
 use Rattle.channel.proofs.Laws.Wires.{walks}
-use borrow.Author.Rules.{rules}
 use Rattle.channel.proofs.wires.ack_sending.Goals as goal
 
 pub returns : goal.returns

@@ -1,6 +1,5 @@
 -- `channel::wires::beat` meets its contract.
 use Rattle.channel.specs.Wires.{beaten}
-use borrow.Author.Rules.{rules}
 use Rattle.channel.proofs.wires.beat.Goals as goal
 
 pub returns-in-Quiet : goal.returns-in-Quiet

@@ -1,6 +1,5 @@
 -- `channel::wires::begin` meets its contract.
 use Rattle.channel.proofs.Laws.Wires.{walks}
-use borrow.Author.Rules.{rules}
 use Rattle.channel.proofs.wires.begin.Goals as goal
 
 pub returns : goal.returns

@@ -1,6 +1,5 @@
 -- `channel::wires::begin_by` meets its contract.
 use Rattle.channel.specs.Wires.{began_by}
-use borrow.Author.Rules.{rules}
 use Rattle.channel.proofs.wires.begin_by.Goals as goal
 
 pub returns-in-Empty : goal.returns-in-Empty

@@ -1,7 +1,6 @@
 -- `channel::wires::fail_by` meets its contract.
 use Rattle.channel.specs.Wires.{failed_by}
 use Rattle.laws.specs.Cases.{pick-false, pick_true}
-use borrow.Author.Rules.{rules}
 use Rattle.channel.proofs.wires.fail_by.Goals as goal
 
 pub returns-then-masked : goal.returns-then-masked

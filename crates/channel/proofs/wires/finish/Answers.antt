@@ -1,6 +1,5 @@
 -- `channel::wires::finish` meets its contract.
 use Rattle.channel.specs.Wires.{finished}
-use borrow.Author.Rules.{rules}
 use Rattle.channel.proofs.wires.finish.Goals as goal
 
 pub returns : goal.returns

@@ -1,7 +1,5 @@
 -- `channel::wires::move_to` meets its contract.
-use Rattle.channel.proofs.Laws.Wires.{moves}
 use Rattle.channel.specs.Wires.{moved_to}
-use borrow.Author.Rules.{rules}
 use Rattle.channel.proofs.wires.move_to.Goals as goal
 
 pub returns-in_default : goal.returns-in_default

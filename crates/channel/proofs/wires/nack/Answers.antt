@@ -1,6 +1,5 @@
 -- `channel::wires::nack` meets its contract.
 use Rattle.channel.proofs.Laws.Wires.{walks}
-use borrow.Author.Rules.{rules}
 use Rattle.channel.proofs.wires.nack.Goals as goal
 
 pub returns : goal.returns

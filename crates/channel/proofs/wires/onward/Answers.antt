@@ -1,5 +1,4 @@
 -- `channel::wires::onward` meets its contract.
-use borrow.Author.Rules.{rules}
 use Rattle.channel.proofs.Laws.Wires.{walks}
 use Rattle.channel.proofs.wires.onward.Goals as goal
 

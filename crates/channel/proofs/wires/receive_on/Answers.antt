@@ -1,6 +1,5 @@
 -- `channel::wires::receive_on` meets its contract.
 use Rattle.channel.specs.Wires.{receive_on}
-use borrow.Author.Rules.{rules}
 use Rattle.channel.proofs.wires.receive_on.Goals as goal
 
 pub returns-in-Cut : goal.returns-in-Cut

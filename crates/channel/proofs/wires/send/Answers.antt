@@ -1,6 +1,5 @@
 -- `channel::wires::send` meets its contract.
 use Rattle.channel.specs.Wires.{sent_to}
-use borrow.Author.Rules.{rules}
 use Rattle.channel.proofs.wires.send.Goals as goal
 
 pub returns : goal.returns

@@ -1,6 +1,5 @@
 -- `channel::wires::send_byte` meets its contract.
 use Rattle.channel.specs.Wires.{byte_sent}
-use borrow.Author.Rules.{rules}
 use Rattle.channel.proofs.wires.send_byte.Goals as goal
 
 pub returns : goal.returns

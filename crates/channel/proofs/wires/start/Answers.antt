@@ -1,6 +1,5 @@
 -- `channel::wires::start` meets its contract.
 use Rattle.channel.specs.Wires.{cleared, passed, started}
-use borrow.Author.Rules.{rules}
 use Rattle.channel.proofs.wires.start.Goals as goal
 
 pub returns : goal.returns

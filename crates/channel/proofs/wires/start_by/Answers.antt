@@ -1,7 +1,5 @@
 -- `channel::wires::start_by` meets its contract.
-use Rattle.channel.proofs.Laws.Wires.{moves}
 use Rattle.channel.specs.Wires.{started_by}
-use borrow.Author.Rules.{rules}
 use Rattle.channel.proofs.wires.start_by.Goals as goal
 
 pub returns-in_default : goal.returns-in_default

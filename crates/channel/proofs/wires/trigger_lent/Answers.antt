@@ -1,7 +1,6 @@
 -- `channel::wires::trigger_lent` meets its contract.
 use Rattle.channel.specs.Laws.Range.{range_count}
 use Rattle.channel.specs.Wires.{triggered}
-use borrow.Author.Rules.{rules}
 use Rattle.channel.proofs.wires.trigger_lent.Goals as goal
 
 pub beat-requires : goal.beat-requires

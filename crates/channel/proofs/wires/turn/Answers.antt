@@ -1,8 +1,6 @@
 -- `channel::wires::turn` meets its contract.
-use Rattle.channel.proofs.Laws.Wires.{meets_ack_address, meets_ack_sending, meets_receive, meets_nack_address, meets_nack_sending, meets_begin}
 use Rattle.channel.proofs.Laws.Step.{keeps}
 use Rattle.channel.specs.Wires.{turned}
-use borrow.Author.Rules.{rules}
 use Rattle.channel.proofs.wires.turn.Goals as goal
 
 pub returns-in-Unawaited : goal.returns-in-Unawaited

@@ -1,6 +1,5 @@
 -- `sequence::walk::end_flags` meets its contract.
 use Rattle.sequence.specs.Walk.{end_flags}
-use borrow.Author.Rules.{rules}
 use Rattle.sequence.proofs.walk.end_flags.Goals as goal
 
 pub returns-in-Fe : goal.returns-in-Fe

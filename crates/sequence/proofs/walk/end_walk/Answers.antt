@@ -1,6 +1,5 @@
 -- `sequence::walk::end_walk` meets its contract.
 use Rattle.sequence.specs.Walk.{end_walk}
-use borrow.Author.Rules.{rules}
 use Rattle.sequence.proofs.walk.end_walk.Goals as goal
 
 pub returns-in-Fe : goal.returns-in-Fe

@@ -1,6 +1,5 @@
 -- `sequence::walk::fault_flags` meets its contract.
 use Rattle.sequence.specs.Walk.{fault_flags}
-use borrow.Author.Rules.{rules}
 use Rattle.sequence.proofs.walk.fault_flags.Goals as goal
 
 pub returns-in-Dae : goal.returns-in-Dae

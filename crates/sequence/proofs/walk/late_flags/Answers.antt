@@ -1,7 +1,6 @@
 -- `sequence::walk::late_flags` meets its contract.
 use Rattle.laws.specs.Cases.{cases}
 use Rattle.sequence.specs.Walk.{late_flags}
-use borrow.Author.Rules.{rules}
 use Rattle.sequence.proofs.walk.late_flags.Goals as goal
 
 pub returns-then-femsk : goal.returns-then-femsk

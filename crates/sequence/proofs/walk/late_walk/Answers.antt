@@ -1,7 +1,6 @@
 -- `sequence::walk::late_walk` meets its contract.
 use Rattle.laws.specs.Cases.{cases}
 use Rattle.sequence.specs.Walk.{late_walk}
-use borrow.Author.Rules.{rules}
 use Rattle.sequence.proofs.walk.late_walk.Goals as goal
 
 pub returns-then-femsk : goal.returns-then-femsk

@@ -1,7 +1,6 @@
 -- `sequence::walk::nack_flags` meets its contract.
 use Rattle.laws.specs.Cases.{cases}
 use Rattle.sequence.specs.Walk.{nack_flags}
-use borrow.Author.Rules.{rules}
 use Rattle.sequence.proofs.walk.nack_flags.Goals as goal
 
 pub returns-then-read : goal.returns-then-read

@@ -1,5 +1,1 @@
 -- `sequence::wires::ack_turn` meets its contract.
-use borrow.Author.Rules.{rules}
-use Rattle.sequence.proofs.wires.ack_turn.Given as goal
-
-

@@ -1,7 +1,6 @@
 -- `sequence::wires::ask_of` meets its contract.
 use Rattle.laws.specs.Cases.{cases}
 use Rattle.sequence.specs.Wires.{ask_of}
-use borrow.Author.Rules.{rules}
 use Rattle.sequence.proofs.wires.ask_of.Goals as goal
 
 pub returns-then-over : goal.returns-then-over

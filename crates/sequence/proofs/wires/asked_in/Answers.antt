@@ -1,6 +1,5 @@
 -- `sequence::wires::asked_in_lem` meets its contract.
 use Rattle.sequence.specs.Wires.{asked_in}
-use borrow.Author.Rules.{rules}
 use Rattle.sequence.proofs.wires.asked_in.Goals as goal
 
 pub returns-in-Idle : goal.returns-in-Idle

@@ -1,7 +1,6 @@
 -- `sequence::wires::edge_beat` meets its contract.
 use Rattle.laws.specs.Cases.{cases}
 use Rattle.sequence.specs.Wires.{edge_beat}
-use borrow.Author.Rules.{rules}
 use Rattle.sequence.proofs.wires.edge_beat.Goals as goal
 
 pub returns-then-matches : goal.returns-then-matches

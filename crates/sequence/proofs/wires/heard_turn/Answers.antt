@@ -1,6 +1,5 @@
 -- `sequence::wires::heard_turn` meets its contract: in each arm the event is known.
 use Rattle.sequence.specs.Wires.{heard_turn}
-use borrow.Author.Rules.{rules}
 use Rattle.sequence.proofs.wires.heard_turn.Goals as goal
 
 pub returns-in-Ninth : goal.returns-in-Ninth

@@ -1,7 +1,6 @@
 -- `sequence::wires::masked` meets its contract.
 use Rattle.laws.specs.Cases.{cases}
 use Rattle.sequence.specs.Wires.{masked_of}
-use borrow.Author.Rules.{rules}
 use Rattle.sequence.proofs.wires.masked.Goals as goal
 
 pub returns-then-read : goal.returns-then-read

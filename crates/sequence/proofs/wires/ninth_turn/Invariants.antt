@@ -1,5 +1,1 @@
 -- `sequence::wires::ninth_turn` meets its contract.
-use borrow.Author.Rules.{rules}
-use Rattle.sequence.proofs.wires.ninth_turn.Given as goal
-
-

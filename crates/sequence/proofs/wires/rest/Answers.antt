@@ -1,7 +1,6 @@
 -- `sequence::wires::rest` meets its contract.
 use Rattle.sequence.specs.Laws.Wires.{frames}
 use Rattle.sequence.specs.Wires.{rest_of}
-use borrow.Author.Rules.{rules}
 use Rattle.sequence.proofs.wires.rest.Goals as goal
 
 pub returns-then-te : goal.returns-then-te

@@ -1,6 +1,5 @@
 -- `sequence::wires::store` meets its contract.
 use Rattle.sequence.specs.Laws.Storing.{current_in}
-use borrow.Author.Rules.{rules}
 use Rattle.sequence.proofs.wires.store.Goals as goal
 
 pub bounds-mem-i : goal.bounds-mem-i

@@ -1,7 +1,6 @@
 -- `sequence::wires::tick_turn` meets its contract.
 use Rattle.laws.specs.Cases.{cases, pick_true}
 use Rattle.sequence.specs.Wires.{tick_turn}
-use borrow.Author.Rules.{rules}
 use mathlib.Core.Path.{◌∙◌, sym}
 use Rattle.sequence.proofs.wires.tick_turn.Goals as goal
 

@@ -1,7 +1,6 @@
 -- `sequence::wires::turn_of` meets its contract.
 use Rattle.laws.specs.Cases.{cases}
 use Rattle.sequence.specs.Wires.{turn_of}
-use borrow.Author.Rules.{rules}
 use Rattle.sequence.proofs.wires.turn_of.Goals as goal
 
 pub returns-then-hears : goal.returns-then-hears

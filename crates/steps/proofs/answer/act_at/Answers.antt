@@ -1,6 +1,5 @@
 -- `steps::answer::act_at` meets its contract.
 use Rattle.steps.specs.Laws.Acts.{only_at_lem}
-use borrow.Author.Rules.{rules}
 use Rattle.steps.proofs.answer.act_at.Goals as goal
 
 pub returns : goal.returns

@@ -1,7 +1,6 @@
 -- `steps::map::channel_at` meets its contract.
 use Rattle.laws.specs.Cases.{cases}
 use Rattle.steps.specs.Map.{channel_at}
-use borrow.Author.Rules.{rules}
 use Rattle.steps.proofs.map.channel_at.Goals as goal
 
 pub returns-then-a-lt192 : goal.returns-then-a-lt192

@@ -1,7 +1,6 @@
 -- `steps::map::read_target` meets its contract.
 use Rattle.laws.specs.Cases.{pick-false, pick_true}
 use Rattle.steps.specs.Map.{read_target}
-use borrow.Author.Rules.{rules}
 use borrow.Author.Tests.{le-ltb, lt-ltb}
 use mathlib.Core.Path.{refl, sym}
 use Rattle.steps.proofs.map.read_target.Goals as goal

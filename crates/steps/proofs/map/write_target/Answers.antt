@@ -1,7 +1,6 @@
 -- `steps::map::write_target` meets its contract.
 use Rattle.laws.specs.Cases.{pick-false, pick_true}
 use Rattle.steps.specs.Map.{write_target}
-use borrow.Author.Rules.{rules}
 use borrow.Author.Tests.{le-ltb, lt-ltb}
 use mathlib.Core.Path.{refl, sym}
 use Rattle.steps.proofs.map.write_target.Goals as goal

@@ -2,7 +2,6 @@
 use Rattle.channel.specs.Range.{in_range}
 use Rattle.channel.proofs.Laws.Step.{ranged}
 use Rattle.laws.specs.Cases.{cases}
-use borrow.Author.Rules.{rules}
 use Rattle.channel.proofs.state.Channel.in_range.Goals as goal
 
 pub frame_in-requires : goal.frame_in-requires

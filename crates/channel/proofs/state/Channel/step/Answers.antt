@@ -2,7 +2,6 @@
 use Rattle.channel.proofs.Laws.Access.{guarded_no, guarded-yes}
 use Rattle.channel.proofs.Laws.Step.{accepts, steps}
 use Rattle.channel.specs.Step.{range_number, outcome_of}
-use borrow.Author.Rules.{rules}
 use mathlib.Core.Path.{◌∙◌, ap}
 use Rattle.channel.proofs.state.Channel.step.Goals as goal
 

@@ -1,6 +1,5 @@
 -- `head::state::Head::clock` meets its contract.
 use Rattle.head.specs.Head.{clocked}
-use borrow.Author.Rules.{rules}
 use Rattle.head.proofs.state.Head.clock.Goals as goal
 
 pub returns : goal.returns

@@ -1,6 +1,5 @@
 -- `head::state::Head::end_frame` meets its contract.
 use Rattle.head.specs.Head.{frame_ended}
-use borrow.Author.Rules.{rules}
 use Rattle.head.proofs.state.Head.end_frame.Goals as goal
 
 pub returns : goal.returns

@@ -1,6 +1,5 @@
 -- `head::state::Head::fail` meets its contract.
 use Rattle.head.specs.Head.{failed}
-use borrow.Author.Rules.{rules}
 use Rattle.head.proofs.state.Head.fail.Goals as goal
 
 pub returns : goal.returns

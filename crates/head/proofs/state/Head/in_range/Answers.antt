@@ -1,7 +1,6 @@
 -- `head::state::Head::in_range` meets its contract.
 use Rattle.head.specs.Range.{head_in}
 use Rattle.laws.specs.Cases.{cases}
-use borrow.Author.Rules.{rules}
 use Rattle.head.proofs.state.Head.in_range.Goals as goal
 
 pub returns-then-registers_in : goal.returns-then-registers_in

@@ -1,6 +1,5 @@
 -- `head::state::Head::read_refusal` meets its contract.
 use Rattle.head.specs.Access.{read_refusal}
-use borrow.Author.Rules.{rules}
 use Rattle.head.proofs.state.Head.read_refusal.Goals as goal
 
 pub returns-in-Status : goal.returns-in-Status

@@ -1,6 +1,5 @@
 -- `head::state::Head::refusal` meets its contract.
 use Rattle.head.specs.Access.{refusal_of}
-use borrow.Author.Rules.{rules}
 use Rattle.head.proofs.state.Head.refusal.Goals as goal
 
 pub returns-in-Status : goal.returns-in-Status

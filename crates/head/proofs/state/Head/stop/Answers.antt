@@ -1,6 +1,5 @@
 -- `head::state::Head::stop` meets its contract.
 use Rattle.head.specs.Head.{stopped}
-use borrow.Author.Rules.{rules}
 use Rattle.head.proofs.state.Head.stop.Goals as goal
 
 pub returns : goal.returns
