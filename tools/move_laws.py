@@ -15,6 +15,12 @@ import re
 import sys
 
 STAYS = {("files", "Laws.File"), ("files", "Laws.Kept")}
+# what README.md and docs/PROMISES.md say of the places
+WORDS = {
+    "`specs/Laws.antt`, `specs/Laws/` and `specs/Facts.antt` need no belief: laws are proved, and facts are what functions hand to each other.": "`specs/Facts.antt` needs no belief: facts are what functions hand to each other. Nor does `specs/Laws/` of `files`: laws are proved.",
+    "`proofs/` holds the proofs. The prover reads them; you need not.": "`proofs/` holds the proofs, and in pages of its own, most in `proofs/Laws/`, the laws that are proved of the definitions, theorems too. The prover reads them; you need not.",
+    "Not `specs/Laws.antt` and `specs/Laws/`, which are proved, and not `specs/Facts.antt`, what functions hand to each other;": "Not `specs/Laws/` of `files`, which is proved, and not `specs/Facts.antt`, what functions hand to each other;",
+}
 SPLIT = [("sheet", it) for it in ("Premise", "Second", "Sheet", "Tight")]
 PATH = re.compile(r"Rattle\.(\w+)\.specs\.([A-Z]\w*(?:\.[A-Z]\w*)*)")
 
@@ -186,6 +192,11 @@ def renamed(specs, proofs):
         it = (m.group(1), m.group(2).replace("/", "."))
         return f"crates/{m.group(1)}/proofs/{m.group(2)}.antt" if it in gone else m.group(0)
 
+    def remark(crate, line):
+        """What a comment says of a page of its own crate that went."""
+        line = re.sub(r"(?<![\w/.])((?:Laws/)?[A-Z]\w*)\.antt", lambda m: f"proofs/{m.group(0)}" if (crate, m.group(1).replace("/", ".")) in gone else m.group(0), line)
+        return re.sub(r"(?<![\w/.])Laws/(?!\w)", "proofs/Laws/", line) if any(it[0] == crate and it[1].startswith("Laws.") for it in gone) else line
+
     code = [it for end in ("antt", "rt") for part in ("src", "specs", "proofs") for it in glob.glob(f"crates/*/{part}/**/*.{end}", recursive=True)]
     edits = glob.glob("crates/*/must-fail/*.edit")
     words = ["README.md"] + glob.glob("docs/**/*.md", recursive=True) + glob.glob("tests/*.test")
@@ -194,11 +205,16 @@ def renamed(specs, proofs):
         if not path.startswith("docs/CHANGES/"):
             new = re.sub(r"crates/(\w+)/specs/([A-Z][\w/]*)\.antt", file, new)
         new = PATH.sub(module, new)
+        if re.match(r"crates/\w+/(src|specs)/", path):
+            crate = path.split("/")[1]
+            new = re.sub(r"(?m)^.*(?:--|//) .*$", lambda m: remark(crate, m.group(0)), new)
         if path.endswith(".edit"):
             crate = path.split("/")[1]
             new = re.sub(r"(?m)^file: specs/([A-Z][\w/]*)\.antt$", lambda m: f"file: proofs/{m.group(1)}.antt" if (crate, m.group(1).replace("/", ".")) in gone else m.group(0), new)
         if path.startswith("tests/"):
             new = re.sub(r"(?<![\w/])(\w+)/specs/Laws(?![\w/])", lambda m: f"{m.group(1)}/proofs/Laws" if (m.group(1), "Laws") in {(c, n.split(".")[0]) for c, n in gone} else m.group(0), new)
+        for old, said in WORDS.items():
+            new = new.replace(old, said) if path.endswith(".md") else new
         if new != text:
             write(path, new) if "/" in path else open(path, "w", encoding="utf-8").write(new)
 
