@@ -1,4 +1,6 @@
 // The script program: steps on standard input, a line each, and a line of answer for each on standard output, over one part.
+#![tactic(auto)]
+
 ghost use Rattle.std.specs.Prelude.{◌≡◌, ◌+◌, ◌*◌, ◌≤◌, length, take, drop};
 ghost use Rattle.part.specs.State.{wiped};
 ghost use Rattle.script.specs.Grammar.{line_room};
@@ -6,11 +8,11 @@ ghost use Rattle.answers.specs.Answer.{answer_room};
 ghost use Rattle.bench.specs.Talk.{block_size, sitting_of, bare_of, silenced, Sized, Ready, Heard, Closed, Written, going_on, Begun, Turned};
 
 use answers::ANSWER_ROOM;
-use libc::{STDERR_FILENO, STDIN_FILENO, STDOUT_FILENO};
 use part::Part;
 use rules::{Device, MEMORY};
 use runner::{Course, Start};
 use script::LINE_ROOM;
+use std::io::{Read, Write};
 
 // The bytes of the block that is read into (`block_size`).
 const BLOCK: usize = 8192;
@@ -105,49 +107,54 @@ fn finish(s: Seat, block: &mut [u8], mem: &mut [u8], out: &mut [u8]) -> Seat
 // ---- reads and writes
 
 // Writes the first n bytes, and goes on as meant unless that failed.
-fn written(out: &[u8], n: usize, next: How) -> How
+fn written<W: Write>(to: &mut W, out: &[u8], n: usize, next: How) -> How
     requires { n ≤ length out.now }
     ensures { Written next result }
 {
-    if io::write_all(STDOUT_FILENO, &out[..n]) {
+    if to.write_all(&out[..n]).is_ok() {
         return next;
     }
     How::Unwritten
 }
 
 // One read, of what is there, and the answers to its lines.
-fn turn(s: Seat, block: &mut [u8], mem: &mut [u8], out: &mut [u8]) -> Bench
+fn turn<R: Read, W: Write>(
+    from: &mut R,
+    to: &mut W,
+    s: Seat,
+    block: &mut [u8],
+    mem: &mut [u8],
+    out: &mut [u8],
+) -> Bench
     requires { Ready s mem.old × (line_room + 1 ≤ length block.old) × (answer_room * length block.old ≤ length out.old) }
     ensures turned { Turned s mem.old result mem.new (take result.came (drop line_room block.new)) (take result.seat.at out.new) }
     ensures ready { Ready result.seat mem.new }
 {
-    let got = libc::read(STDIN_FILENO, &mut block[LINE_ROOM..]);
-    if got < 0 {
+    let Ok(n) = from.read(&mut block[LINE_ROOM..]) else {
         return Bench {
             seat: silent(s),
             came: 0,
             how: How::Unread,
         };
-    }
-    let n = io::count(got, &block[LINE_ROOM..]);
+    };
     if n == 0 {
         let last = finish(s, block, mem, out);
         return Bench {
             seat: last,
             came: 0,
-            how: written(out, last.at, How::Ended),
+            how: written(to, out, last.at, How::Ended),
         };
     }
     let next = answer_from(s, block, n, mem, out);
     Bench {
         seat: next,
         came: n,
-        how: written(out, next.at, How::On),
+        how: written(to, out, next.at, How::On),
     }
 }
 
 // The program begins: the PCA9663 after a reset, and the header is written.
-fn begin(out: &mut [u8]) -> Bench
+fn begin<W: Write>(to: &mut W, out: &mut [u8]) -> Bench
     requires { answer_room ≤ length out.old }
     ensures { Begun result wiped (take result.seat.at out.new) }
 {
@@ -160,7 +167,7 @@ fn begin(out: &mut [u8]) -> Bench
             at: n,
         },
         came: 0,
-        how: written(out, n, How::On),
+        how: written(to, out, n, How::On),
     }
 }
 
@@ -177,22 +184,17 @@ fn goes_on(turns: u64, how: How) -> bool
 }
 
 // Says what failed, and after which step.
-fn complain(what: &[u8], step: u64) {
-    io::write_all(STDERR_FILENO, what);
-    io::print_decimal(STDERR_FILENO, step);
-    io::write_all(STDERR_FILENO, b"\n");
+fn complain(err: &impl Eprint, what: &str, step: u64) {
+    let _ = eprintln!(err; "bench: {what} after step {step}");
 }
 
-// A program has no exit status, so a failure is said on standard error. The answers up to the step are written.
-fn report(how: How, step: u64) {
+// What is said on standard error is a failure to ./bench. The answers up to the step are written.
+fn report(err: &impl Eprint, how: How, step: u64) {
     match how {
         How::On => (),
         How::Ended => (),
-        How::Unread => complain(b"bench: standard input could not be read after step ", step),
-        How::Unwritten => complain(
-            b"bench: standard output could not be written after step ",
-            step,
-        ),
+        How::Unread => complain(err, "standard input could not be read", step),
+        How::Unwritten => complain(err, "standard output could not be written", step),
     }
 }
 
@@ -208,11 +210,13 @@ fn output() -> [u8; OUTPUT]
     [0; OUTPUT]
 }
 
-fn main() {
+fn main(rt: HostRuntime) {
+    let mut stdin = rt.stdin();
+    let mut stdout = rt.stdout();
     let mut block = input();
     let mut out = output();
     let mut mem = [0u8; MEMORY];
-    let first = begin(&mut out);
+    let first = begin(&mut stdout, &mut out);
     let mut seat = first.seat;
     let mut how = first.how;
     // the last step before the turn: its answer is written
@@ -220,12 +224,19 @@ fn main() {
     let mut turns = u64::MAX;
     while goes_on(turns, how) {
         safe = seat.step;
-        let b = turn(seat, &mut block, &mut mem, &mut out);
+        let b = turn(
+            &mut stdin,
+            &mut stdout,
+            seat,
+            &mut block,
+            &mut mem,
+            &mut out,
+        );
         let next = b.seat;
         seat = next;
         let then = b.how;
         how = then;
         turns -= 1;
     }
-    report(how, safe);
+    report(&rt, how, safe);
 }

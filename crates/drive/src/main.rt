@@ -1,107 +1,111 @@
 // Drives one channel, number 0, through lines 2 to 9 of the bench sheet by its public step. A printed line is one step: the sheet's line, the step as a
 // script writes it, and the answer's number, value and action.
+#![tactic(auto)]
+
 ghost use Rattle.std.specs.Prelude.{◌≤◌, length};
 
 use channel::Channel;
 use head::Answer;
-use libc::STDOUT_FILENO;
 use rules::{Action, BUFFER, Decoded, Event, Kind, Level, Straps};
 use steps::Op;
 
 // ---- what is printed
 
-fn say(text: &[u8]) {
-    io::write_all(STDOUT_FILENO, text);
+// A write that fails is left: what has come out is looked at, and nothing else here could say it.
+fn say(out: &impl Print, text: &[u8]) {
+    let _ = out.write_all(text);
 }
 
-fn say_hex(b: u8) {
+fn say_number(out: &impl Print, n: u64) {
+    let _ = out.print(n);
+}
+
+fn say_hex(out: &impl Print, b: u8) {
     let digits = [letters::digit(b / 16), letters::digit(b % 16)];
-    say(&digits);
+    say(out, &digits);
 }
 
-fn say_byte(b: u8) {
-    say(b"BYTE ");
-    say_hex(b);
+fn say_byte(out: &impl Print, b: u8) {
+    say(out, b"BYTE ");
+    say_hex(out, b);
 }
 
-fn say_ninth(l: Level) {
+fn say_ninth(out: &impl Print, l: Level) {
     match l {
-        Level::Low => say(b"ACK"),
-        Level::High => say(b"NACK"),
+        Level::Low => say(out, b"ACK"),
+        Level::High => say(out, b"NACK"),
     }
 }
 
-fn say_event(e: Event) {
+fn say_event(out: &impl Print, e: Event) {
     match e {
-        Event::Ninth(l) => say_ninth(l),
-        Event::Byte(b) => say_byte(b),
-        Event::Tick => say(b"TICK"),
-        Event::Stop => say(b"STOP"),
-        Event::Sda => say(b"SDA"),
-        Event::Scl => say(b"SCL"),
-        Event::Ill => say(b"ILL"),
-        Event::Sent => say(b"SENT"),
+        Event::Ninth(l) => say_ninth(out, l),
+        Event::Byte(b) => say_byte(out, b),
+        Event::Tick => say(out, b"TICK"),
+        Event::Stop => say(out, b"STOP"),
+        Event::Sda => say(out, b"SDA"),
+        Event::Scl => say(out, b"SCL"),
+        Event::Ill => say(out, b"ILL"),
+        Event::Sent => say(out, b"SENT"),
     }
 }
 
-fn say_write(a: u8, v: u8) {
-    say(b"W ");
-    say_hex(a);
-    say(b" ");
-    say_hex(v);
+fn say_write(out: &impl Print, a: u8, v: u8) {
+    say(out, b"W ");
+    say_hex(out, a);
+    say(out, b" ");
+    say_hex(out, v);
 }
 
-fn say_read(a: u8) {
-    say(b"R ");
-    say_hex(a);
+fn say_read(out: &impl Print, a: u8) {
+    say(out, b"R ");
+    say_hex(out, a);
 }
 
-fn say_wire(e: Event) {
-    say(b"E 0 ");
-    say_event(e);
+fn say_wire(out: &impl Print, e: Event) {
+    say(out, b"E 0 ");
+    say_event(out, e);
 }
 
-fn say_op(op: Op) {
+fn say_op(out: &impl Print, op: Op) {
     match op {
-        Op::Write(a, v) => say_write(a, v),
-        Op::Read(a) => say_read(a),
-        Op::Wire(e) => say_wire(e),
+        Op::Write(a, v) => say_write(out, a, v),
+        Op::Read(a) => say_read(out, a),
+        Op::Wire(e) => say_wire(out, e),
     }
 }
 
-fn say_part(text: &[u8], n: usize)
+fn say_part(out: &impl Print, text: &[u8], n: usize)
     requires { n ≤ length text.now }
 {
-    say(&text[..n]);
+    say(out, &text[..n]);
 }
 
-fn say_first(text: [u8; 4], n: usize)
+fn say_first(out: &impl Print, text: [u8; 4], n: usize)
     requires { n ≤ 4 }
 {
-    say_part(&text, n);
+    say_part(out, &text, n);
 }
 
-fn say_action(a: Action) {
+fn say_action(out: &impl Print, a: Action) {
     let t = letters::spell(a);
     let n = t.len;
     let text = t.bytes;
-    say_first(text, n);
+    say_first(out, text, n);
 }
 
-fn say_answer(a: Answer) {
-    io::print_decimal(STDOUT_FILENO, a.number as u64);
-    say(b" ");
-    say_hex(a.value);
-    say(b" ");
+fn say_answer(out: &impl Print, a: Answer) {
+    say_number(out, a.number as u64);
+    say(out, b" ");
+    say_hex(out, a.value);
+    say(out, b" ");
     let action = a.action;
-    say_action(action);
-    say(b"\n");
+    say_action(out, action);
+    say(out, b"\n");
 }
 
 // ---- the sheet, a number a row: the sheet's line; 0 a fresh channel, 1 a write, 2 a read, from 9 on the kind of an event (9 ACK, A BYTE, B NACK, C TICK,
 // D STOP); two bytes for it
-
-const ROWS: usize = 105;
 
 const SHEET: [u32; 105] = [
     // Count 0, STA: no action, CONTROL and CHSTATUS 00h.
@@ -221,14 +225,14 @@ const SHEET: [u32; 105] = [
 ];
 
 // One step, printed.
-fn step(c: Channel, mem: &mut [u8], line: u32, op: Op) -> Channel {
-    io::print_decimal(STDOUT_FILENO, line as u64);
-    say(b": ");
-    say_op(op);
-    say(b" -> ");
+fn step(out: &impl Print, c: Channel, mem: &mut [u8], line: u32, op: Op) -> Channel {
+    say_number(out, line as u64);
+    say(out, b": ");
+    say_op(out, op);
+    say(out, b" -> ");
     let r = c.step(0, mem, op);
     let a = r.answer;
-    say_answer(a);
+    say_answer(out, a);
     r.channel
 }
 
@@ -237,38 +241,36 @@ fn fresh(mem: &mut [u8; BUFFER]) -> Channel {
     Channel::new(Straps { kind: Kind::Fm })
 }
 
-fn no_event(c: Channel) -> Channel {
-    say(b"a row that is no event's\n");
+fn no_event(out: &impl Print, c: Channel) -> Channel {
+    say(out, b"a row that is no event's\n");
     c
 }
 
-fn hear(c: Channel, mem: &mut [u8], line: u32, d: Decoded) -> Channel {
+fn hear(out: &impl Print, c: Channel, mem: &mut [u8], line: u32, d: Decoded) -> Channel {
     match d {
-        Decoded::Known(e) => step(c, mem, line, Op::Wire(e)),
-        Decoded::NoEvent => no_event(c),
+        Decoded::Known(e) => step(out, c, mem, line, Op::Wire(e)),
+        Decoded::NoEvent => no_event(out, c),
     }
 }
 
 // One row of the sheet.
-fn row(c: Channel, mem: &mut [u8; BUFFER], r: u32) -> Channel {
+fn row(out: &impl Print, c: Channel, mem: &mut [u8; BUFFER], r: u32) -> Channel {
     let line = r / 0x100000;
     let kind = (r / 0x10000 % 16) as u8;
     let a = (r / 256 % 256) as u8;
     let v = (r % 256) as u8;
     match kind {
         0 => fresh(mem),
-        1 => step(c, mem, line, Op::Write(a, v)),
-        2 => step(c, mem, line, Op::Read(a)),
-        _ => hear(c, mem, line, rules::event_of(kind, a)),
+        1 => step(out, c, mem, line, Op::Write(a, v)),
+        2 => step(out, c, mem, line, Op::Read(a)),
+        _ => hear(out, c, mem, line, rules::event_of(kind, a)),
     }
 }
 
-fn main() {
+fn main(rt: HostRuntime) {
     let mut mem = [0u8; BUFFER];
     let mut c = fresh(&mut mem);
-    let mut i: usize = 0;
-    while i < ROWS {
-        c = row(c, &mut mem, SHEET[i]);
-        i += 1;
+    for r in &SHEET {
+        c = row(&rt, c, &mut mem, *r);
     }
 }

@@ -136,16 +136,16 @@ fn same_walk(a: Walk, b: Walk) -> bool {
 }
 
 fn same_tables(a: Channel, b: Channel) -> bool {
-    if !check::same(&a.slatable, &b.slatable) {
+    if a.slatable != b.slatable {
         return false;
     }
-    if !check::same(&a.tranconfig, &b.tranconfig) {
+    if a.tranconfig != b.tranconfig {
         return false;
     }
-    if !check::same(&a.status, &b.status) {
+    if a.status != b.status {
         return false;
     }
-    check::same(&a.bytecount, &b.bytecount)
+    a.bytecount == b.bytecount
 }
 
 fn same_settings(a: Settings, b: Settings) -> bool {

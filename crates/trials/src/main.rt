@@ -1,6 +1,8 @@
 // Calls of a fixed binary form on one part and one memory: lines of a script, and loads and saves of sequence files, which no script has. A call is 8 bytes of
 // header and then its buffer. A printed line is one call: its number, the answer's number and value, INT, and the sums of the buffer, the state and the memory
 // after it. The input ends where no whole call is left.
+#![tactic(auto)]
+
 mod calls;
 mod poke;
 mod sums;
@@ -8,9 +10,10 @@ mod sums;
 ghost use Rattle.std.specs.Prelude.{◌≤◌, length};
 
 use calls::{BYTES, Call, least};
-use libc::{STDIN_FILENO, STDOUT_FILENO};
+use itoa::Buffer;
 use part::{Part, PartStepped};
 use rules::Device;
+use std::io::Read;
 
 // The most bytes that a buffer can have.
 const ROOM: usize = 4608;
@@ -40,9 +43,8 @@ fn put_text(out: &mut [u8; WIDTH], at: usize, text: &[u8]) -> usize {
 }
 
 fn put_decimal(out: &mut [u8; WIDTH], at: usize, n: u64) -> usize {
-    let mut digits = [0u8; 20];
-    let k = io::decimal(n, &mut digits);
-    put_text(out, at, &digits[..k])
+    let mut digits = Buffer::new();
+    put_text(out, at, digits.format(n).as_bytes())
 }
 
 // A space and a number.
@@ -64,17 +66,18 @@ fn put_level(out: &mut [u8; WIDTH], at: usize, pulled: bool) -> usize {
     }
 }
 
-fn say(out: &[u8], n: usize)
+// A write that fails is left: what has come out is looked at, and nothing else here could say it.
+fn say(to: &impl Print, out: &[u8], n: usize)
     requires { n ≤ length out.now }
 {
-    io::write_all(STDOUT_FILENO, &out[0..n]);
+    let _ = to.write_all(&out[0..n]);
 }
 
-fn say_line(out: &[u8; WIDTH], n: usize) {
-    say(out, least(n, WIDTH));
+fn say_line(to: &impl Print, out: &[u8; WIDTH], n: usize) {
+    say(to, out, least(n, WIDTH));
 }
 
-fn report(number: u64, r: PartStepped, buf: &[u8], mem: &[u8; BYTES]) {
+fn report(to: &impl Print, number: u64, r: PartStepped, buf: &[u8], mem: &[u8; BYTES]) {
     let p = r.part;
     let a = r.answer;
     let mut out = [0u8; WIDTH];
@@ -89,7 +92,7 @@ fn report(number: u64, r: PartStepped, buf: &[u8], mem: &[u8; BYTES]) {
     let second = put_next(&mut out, first, sums::add_part(acts, p));
     let third = put_next(&mut out, second, sums::add_bytes(sums::EMPTY, mem));
     let end = put(&mut out, third, b'\n');
-    say_line(&out, end);
+    say_line(to, &out, end);
 }
 
 // ---- a call
@@ -115,17 +118,16 @@ fn call_of(h: [u8; 8]) -> Call {
 }
 
 // Reads n bytes into the buffer, and tells whether so many were left.
-fn fill(buf: &mut [u8], n: usize) -> bool
+fn fill(input: &mut impl Read, buf: &mut [u8], n: usize) -> bool
     requires { n ≤ length buf.old }
 {
-    io::read_full(STDIN_FILENO, &mut buf[0..n]) == n
+    input.read_exact(&mut buf[0..n]).is_ok()
 }
 
 // The next call, with its buffer read, if a whole one is left and its buffer has room.
-fn read_call(buf: &mut [u8; ROOM]) -> Next {
+fn read_call(input: &mut impl Read, buf: &mut [u8; ROOM]) -> Next {
     let mut header = [0u8; 8];
-    let n = io::read_full(STDIN_FILENO, &mut header);
-    if n < 8 {
+    if input.read_exact(&mut header).is_err() {
         return Next::End;
     }
     let c = call_of(header);
@@ -133,40 +135,63 @@ fn read_call(buf: &mut [u8; ROOM]) -> Next {
     if ROOM < room {
         return Next::End;
     }
-    if fill(buf, room) {
+    if fill(input, buf, room) {
         return Next::Is(c);
     }
     Next::End
 }
 
-fn answer(number: u64, c: Call, p: Part, buf: &mut [u8], mem: &mut [u8; BYTES]) -> Part {
+fn answer(
+    to: &impl Print,
+    number: u64,
+    c: Call,
+    p: Part,
+    buf: &mut [u8],
+    mem: &mut [u8; BYTES],
+) -> Part {
     let r = calls::perform(c, p, buf, mem);
-    report(number, r, buf, mem);
+    report(to, number, r, buf, mem);
     r.part
 }
 
-fn answer_in(number: u64, c: Call, p: Part, buf: &mut [u8], n: usize, mem: &mut [u8; BYTES]) -> Part
+fn answer_in(
+    to: &impl Print,
+    number: u64,
+    c: Call,
+    p: Part,
+    buf: &mut [u8],
+    n: usize,
+    mem: &mut [u8; BYTES],
+) -> Part
     requires { n ≤ length buf.old }
 {
-    answer(number, c, p, &mut buf[0..n], mem)
+    answer(to, number, c, p, &mut buf[0..n], mem)
 }
 
-fn turn(number: u64, c: Call, p: Part, buf: &mut [u8; ROOM], mem: &mut [u8; BYTES]) -> Part {
-    answer_in(number, c, p, buf, least(c.room, ROOM), mem)
+fn turn(
+    to: &impl Print,
+    number: u64,
+    c: Call,
+    p: Part,
+    buf: &mut [u8; ROOM],
+    mem: &mut [u8; BYTES],
+) -> Part {
+    answer_in(to, number, c, p, buf, least(c.room, ROOM), mem)
 }
 
 // A proved loop has to end, and nothing says that the input does: the number of calls has a largest value, which no run reaches.
-fn main() {
+fn main(rt: HostRuntime) {
+    let mut input = rt.stdin();
     let mut buf = [0u8; ROOM];
     let mut mem = [0u8; BYTES];
     let mut part = Part::new(Device::Pca9663);
     let mut number: u64 = 0;
     while number < u64::MAX {
-        let n = read_call(&mut buf);
+        let n = read_call(&mut input, &mut buf);
         let Next::Is(c) = n else {
             return;
         };
         number += 1;
-        part = turn(number, c, part, &mut buf, &mut mem);
+        part = turn(&rt, number, c, part, &mut buf, &mut mem);
     }
 }
