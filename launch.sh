@@ -1,9 +1,7 @@
 # What the launchers have in common: a program is proved and built first where a source is newer, and a signal to the launcher ends what it has started.
-# Sourced, by a script that has set: name, the program's; root, this file's folder.
-program=$root/target/bin/$name
-# rt makes this file once the program is proved, built and run, and takes it away before it proves it again
-stamp=$root/target/stamp/$name
-job='' room=''
+# Sourced, by a script that has set: name, the program's; root, this file's folder; first, what the program is run on once it is built.
+program=$root/crates/$name/out/$name
+job='' room='' made=''
 
 die() { printf '%s: %s\n' "$name" "$*" >&2; exit 2; }
 
@@ -29,6 +27,7 @@ end() { # end PID: with all below it; stopped first, so that it starts nothing m
 stop() { # stop SIGNAL
     trap - "$1"
     [ -z "$job" ] || end "$job"
+    [ -z "$made" ] || rm -f "$made"
     clear_room
     kill -s "$1" $$
 }
@@ -54,29 +53,35 @@ newer() {
         todo=$next
     done
     for crate in $seen; do
-        [ ! -d "$root/crates/$crate" ] || find "$root/crates/$crate" -name must-fail -prune -o -newer "$program" -print
+        for part in "$root/crates/$crate"/*; do
+            case ${part##*/} in out | must-fail) continue ;; esac
+            [ ! -e "$part" ] || find "$part" -newer "$program" -print
+        done
     done
     find "$root/crates.txt" -newer "$program"
 }
 
-# Of what rt prints, a line a crate; all of it where something is not proved.
+# rt leaves a program in out/ only once it is proved. Of what rt prints, a line a crate; all of it where something is not proved.
 build() {
+    command -v rt >/dev/null 2>&1 || die "needs the Rattle kit's rt on PATH"
     make_room
-    : >"$room/began" && mkfifo "$room/said" || die "no room for temporary files"
+    : >"$room/began" && printf "$first" >"$room/first" && mkfifo "$room/said" || die "no room for temporary files"
     printf '%s: proving and building the program; from nothing this takes some minutes\n' "$name" >&2
-    # without its program a crate counts as not proved
-    [ -f "$program" ] || rm -f "$stamp"
-    (cd "$root" && exec rt check "$name") </dev/null >"$room/said" 2>&1 &
-    job=$!
+    (cd "$root/crates/$name" && exec rt run) <"$room/first" >"$room/said" 2>&1 &
+    job=$! made=$program
+    crate=$name
     while IFS= read -r line || [ -n "$line" ]; do
         printf '%s\n' "$line" >>"$room/all"
-        case $line in 'rt: '*' proved ('*) printf '%s\n' "$line" >&2 ;; esac
+        case $line in
+        'crate '*': '*) crate=${line#crate } crate=${crate%%:*} ;;
+        'logic=proved '*) printf '%s: %s proved\n' "$name" "$crate" >&2 ;;
+        esac
     done <"$room/said"
-    if wait "$job" && [ -f "$program" ] && [ -f "$stamp" ]; then
+    if wait "$job" && [ -x "$program" ]; then
         # an edit during the check is newer than the program
         touch -r "$room/began" "$program"
         clear_room
-        job=''
+        job='' made=''
     else
         cat "$room/all" >&2
         rm -f "$program"
@@ -84,9 +89,8 @@ build() {
     fi
 }
 
-# finds the kit, and makes the program if it has to be
+# makes the program if it has to be
 make_ready() {
-    . "$root/kit.sh"
     for signal in HUP INT QUIT TERM; do trap "stop $signal" "$signal"; done
-    if [ ! -f "$program" ] || [ ! -f "$stamp" ] || [ -n "$(newer | head -n 1)" ]; then build; fi
+    if [ ! -x "$program" ] || [ -n "$(newer | head -n 1)" ]; then build; fi
 }
