@@ -1,2 +1,1 @@
 pub mod Range
-pub mod Laws

@@ -1,4 +1,8 @@
--- The laws that the proofs of the functions cite, by topic.
+-- Laws of the definitions, for the proofs of functions and for the layers above. Nothing here needs to be believed: it is proved.
 pub mod Access
 pub mod Step
 pub mod Wires
+pub mod Frames
+pub mod Kept
+pub mod Range
+pub mod Straps

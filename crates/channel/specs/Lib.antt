@@ -6,4 +6,3 @@ pub mod Access
 pub mod Step
 pub mod Facts
 pub mod Unanswered
-pub mod Laws

@@ -2,7 +2,7 @@
 use Rattle.std.specs.Prelude.{ℕ, List, refl, length}
 use Rattle.works.specs.Work.{Work}
 use Rattle.works.specs.Idle.{Deed}
-use Rattle.works.specs.IdleWork.{idle_work}
+use Rattle.works.proofs.IdleWork.{idle_work}
 use Rattle.files.specs.File.{fault_of, fault_number, over}
 use Rattle.files.specs.Work.{loaded_own, file_from, room_number}
 use Rattle.files.specs.Laws.Kept.{load_keeps}

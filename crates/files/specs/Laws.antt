@@ -1,7 +1,3 @@
 -- Laws of the definitions. Nothing here needs to be believed: it is proved.
 pub mod File
 pub mod Kept
-pub mod Trips
-pub mod Typing
-pub mod Answered
-pub mod Stays

@@ -5,4 +5,3 @@ pub mod Facts
 pub mod Typed
 pub mod Statement
 pub mod Laws
-pub mod Theorem

@@ -1,4 +1,4 @@
--- What is said of sequence files beside the promises of the calls: words for the theorems (Theorem.antt).
+-- What is said of sequence files beside the promises of the calls: words for the theorems (proofs/Theorem.antt).
 use Rattle.std.specs.Prelude.{ℕ, List, ◌∷◌, map, ◌≡◌, length, get_or}
 use Rattle.laws.specs.Lists.{All}
 use Rattle.rules.specs.declared.parts.Straps.{Straps}

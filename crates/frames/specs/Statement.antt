@@ -2,7 +2,7 @@
 -- BYTE and STOP events answered 0, SENT counted as ACK; each BYTECOUNT equals the number of data bytes acknowledged or received for that transaction in the events since
 -- the frame began; bytes sent by a write are the buffer's bytes in order.
 -- A reader has to believe this page, the logger (Wire.antt), what a step is to a channel (Deeds.antt), and the rules of a step that the contract of `Part::step` cites
--- (crate part, specs/Step.antt). Theorem.antt says what is proved; the last lines of each statement there and all of Laws/ are proof.
+-- (crate part, specs/Step.antt). proofs/Theorem.antt says what is proved; the last lines of each statement there and all of proofs/Laws/ are proof.
 use Rattle.std.specs.Prelude.{ℕ, ◌+◌, ◌<◌, ◌≤◌, Bool, true, false, List, [], ◌∷◌, ◌≡◌, length, get_or, replicate}
 use Rattle.laws.specs.Pick.{if◌then◌else◌}
 use Rattle.rules.specs.declared.state.Phase.TheVariants.{Idle, Address}

@@ -2,4 +2,3 @@ pub mod State
 pub mod Head
 pub mod Access
 pub mod Range
-pub mod Laws

@@ -3,8 +3,8 @@
 -- and interrupt level, as list 0, then 1, then 2. Document 02, request Two: no list writes to a PRESET, and no channel's key is pending at the start.
 -- A reader has to believe this page, the pages of states and of writes to a PRESET (crate works, specs/State.antt, specs/Keys.antt), the page of mixes and runs (crate mixes, specs/Mix.antt), and the
 -- rules of a step that the contract of `Part::step` cites (crate part, specs/Step.antt: part_step, part_bytes); for steps with a buffer of their own also
--- Tasks.antt and the page of works (crate works, specs/Work.antt). Theorem.antt says what is proved, of every state, mix and order; the last line of each
--- statement there and all of Laws/ are proof.
+-- Tasks.antt and the page of works (crate works, specs/Work.antt). proofs/Theorem.antt says what is proved, of every state, mix and order; the last line of each
+-- statement there and all of proofs/Laws/ are proof.
 use Rattle.std.specs.Prelude.{ℕ, Bool, false, List, ◌++◌, ◌≡◌}
 use Rattle.steps.specs.declared.map.Op.{Op}
 use Rattle.steps.specs.declared.map.Step.{Step}

@@ -1,3 +1,1 @@
 pub mod Interrupt
-pub mod Sentence
-pub mod Laws

@@ -1,3 +1,1 @@
 pub mod Statement
-pub mod Laws
-pub mod Theorem

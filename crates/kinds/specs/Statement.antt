@@ -1,7 +1,7 @@
 -- REQUEST THREE (document 02): the part is chosen at hardware reset and kept by other resets; on a UFm channel STATUS uses only its two low bits, and INTMSK bits 5
 -- and 4 have no effect. A reader has to believe this page, the page of what nobody answered (crate channel, specs/Unanswered.antt), `heeded` and `device_by` (crate
--- rules, specs/Parts.antt), and the rules of a step that the contract of `Part::step` cites (crate part, specs/Step.antt). Theorem.antt says what is proved; the
--- last line of each statement there and all of Laws/ are proof.
+-- rules, specs/Parts.antt), and the rules of a step that the contract of `Part::step` cites (crate part, specs/Step.antt). proofs/Theorem.antt says what is proved; the
+-- last line of each statement there and all of proofs/Laws/ are proof.
 use Rattle.std.specs.Prelude.{ℕ, ◌<◌, Bool, true, false, List, [], ◌∷◌, ◌≡◌}
 use Rattle.rules.specs.declared.parts.Device.{Device}
 use Rattle.rules.specs.declared.parts.Kind.TheVariants.{Ufm}

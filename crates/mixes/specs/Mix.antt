@@ -1,5 +1,5 @@
 -- What the theorem on mixed runs speaks of: mixes of three lists, machines, and their runs. A reader has to believe this page, and nothing of
--- the proof (Laws/).
+-- the proof (proofs/Laws/).
 use Rattle.std.specs.Prelude.{ℕ, ◌<◌, List, [], ◌∷◌, eqb}
 use Rattle.laws.specs.Pick.{if◌then◌else◌}
 

@@ -3,5 +3,3 @@ pub mod Registers
 pub mod Step
 pub mod Facts
 pub mod Rows
-pub mod Sentence
-pub mod Laws

@@ -6,4 +6,3 @@ pub mod Access
 pub mod Tags
 pub mod Printed
 pub mod Facts
-pub mod Laws

@@ -10,7 +10,7 @@ use Rattle.runner.specs.Text.{Desk, Sitting, ended_lines, rest_of, after_all, re
 abbrev pub desk_of : Part → List ℕ → ℕ → Desk
 desk_of p m step = record { state = start p m; step = step }
 
--- what is kept between two pieces of the input: of the line that has begun the first `line_room` bytes, with which it is read alike (Laws/Kept.antt)
+-- what is kept between two pieces of the input: of the line that has begun the first `line_room` bytes, with which it is read alike (proofs/Laws/Kept.antt)
 abbrev pub shortened : Sitting → Sitting
 shortened s = record { desk = s.desk; line = take line_room s.line }
 

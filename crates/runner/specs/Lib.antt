@@ -3,5 +3,3 @@ pub mod Text
 pub mod Lines
 pub mod Performing
 pub mod Feeding
-pub mod Spoken
-pub mod Laws

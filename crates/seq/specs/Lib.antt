@@ -1,5 +1,3 @@
 pub mod Lines
 pub mod Typing
 pub mod Commands
-pub mod Theorem
-pub mod Laws

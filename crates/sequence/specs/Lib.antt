@@ -1,4 +1,3 @@
 pub mod Wires
 pub mod Walk
 pub mod Facts
-pub mod Laws

@@ -1,17 +1,14 @@
 -- Document 02, request Three: rows that are run on the PCU9669, and the checker computes them.
-use Rattle.std.specs.Prelude.{List, [], ◌∷◌, ◌++◌, refl}
-use Rattle.laws.specs.Lists.{All}
+use Rattle.std.specs.Prelude.{List, [], ◌∷◌, ◌++◌}
 use Rattle.rules.specs.declared.parts.Device.TheVariants.{Pca9663, Pcu9669}
 use Rattle.rules.specs.declared.wires.Action.TheVariants.{S, D, P}
 use Rattle.rules.specs.declared.wires.Event.TheVariants.{Ninth, Sent, Ill, Stop}
 use Rattle.rules.specs.declared.wires.Level.TheVariants.{Low}
 use Rattle.steps.specs.declared.map.Step.TheVariants.{Write, Wire, Reset}
-use Rattle.channel.specs.State.{zeros}
-use Rattle.sheet.specs.Model.{the_part}
-use Rattle.sheet.specs.Run.{Entry, Row, Holds, from, does, acts_at, refuses, writes, reads}
+use Rattle.sheet.specs.Run.{Entry, Row, from, does, acts_at, refuses, writes, reads}
 
 -- defaults: DBh 20h, DCh 08h, DDh 83h, DEh 00h; channel 2's the same, channel 0's as on the PCA9663; DEVICE_ID E9h
-abbrev defaults : Row
+abbrev pub defaults : Row
 defaults =
     from Pcu9669
     (reads 0xDB 0x20 ∷ reads 0xDC 0x08 ∷ reads 0xDD 0x83 ∷ reads 0xDE 0x00 ∷ reads 0xEB 0x20 ∷ reads 0xEC 0x08 ∷ reads 0xED 0x83
@@ -19,7 +16,7 @@ defaults =
     ∷ [])
 
 -- a write of one byte: SENT in place of ACK, BYTECOUNT 1, STATUS 02h, CHSTATUS 80h
-abbrev written : Row
+abbrev pub written : Row
 written =
     from Pcu9669
     (writes 0xD4 1 ∷ writes 0xD4 1 ∷ writes 0xD3 0x40 ∷ writes 0xD5 0x7E
@@ -28,7 +25,7 @@ written =
     ∷ [])
 
 -- a transaction whose bit 0 is 1 and whose length is 1, before a write: skipped as done, and the write's byte is the second
-abbrev passed : Row
+abbrev pub passed : Row
 passed =
     from Pcu9669
     (writes 0xD4 2 ∷ writes 0xD4 1 ∷ writes 0xD4 1 ∷ writes 0xD3 0x41 ∷ writes 0xD3 0x42 ∷ writes 0xD5 0xAA ∷ writes 0xD5 0xBB
@@ -36,15 +33,15 @@ passed =
     ∷ [])
 
 -- a write of length 0 on its way
-abbrev sending : List Entry
+abbrev pub sending : List Entry
 sending = writes 0xD4 1 ∷ writes 0xD4 0 ∷ writes 0xD3 0x40 ∷ acts_at 1 (Write 0xD0 0x40) (S 0x40) ∷ []
 
 -- ACK there and SENT on channel 0 are no. 7; ILL sets SSE
-abbrev heard : Row
+abbrev pub heard : Row
 heard = from Pcu9669 (sending ++ (refuses (Wire 1 (Ninth Low)) 7 ∷ refuses (Wire 0 Sent) 7 ∷ does (Wire 1 Ill) ∷ reads 0xD1 0x02 ∷ []))
 
 -- PRESET and CTRLPRESET keep the part, `X` chooses the PCA9663
-abbrev kept : Row
+abbrev pub kept : Row
 kept =
     from Pcu9669
     (writes 0xDB 0x40 ∷ writes 0xDF 0xA5 ∷ writes 0xDF 0x5A ∷ reads 0xDB 0x20
@@ -53,32 +50,5 @@ kept =
     ∷ does (Reset Pcu9669) ∷ reads 0xF6 0xE9
     ∷ [])
 
-pub second : List Row
+unfoldable pub second : List Row
 second = defaults ∷ written ∷ passed ∷ heard ∷ kept ∷ []
-
--- ---- the checker computes each row
-
-defaults_hold : Holds the_part defaults
-unfolding Holds the_part
-defaults_hold = refl
-
-written_holds : Holds the_part written
-unfolding Holds the_part
-written_holds = refl
-
-passed_holds : Holds the_part passed
-unfolding Holds the_part
-passed_holds = refl
-
-heard_holds : Holds the_part heard
-unfolding Holds the_part
-heard_holds = refl
-
-kept_holds : Holds the_part kept
-unfolding Holds the_part zeros
-kept_holds = refl
-
--- ---- and the table holds, row by row
-pub second_holds : All (Holds the_part) second
-unfolding second
-second_holds = (defaults_hold, (written_holds, (passed_holds, (heard_holds, (kept_holds, tt)))))

@@ -1,32 +1,30 @@
 -- Document 01, 'Bench sheet': its ten P lines, one table under one statement. Each row is run from the reset state, and the checker computes it.
-use Rattle.std.specs.Prelude.{List, [], ◌∷◌, ◌++◌, refl, replicate}
-use Rattle.laws.specs.Lists.{All}
+use Rattle.std.specs.Prelude.{List, [], ◌∷◌, ◌++◌, replicate}
 use Rattle.rules.specs.declared.parts.Device.TheVariants.{Pca9663}
 use Rattle.rules.specs.declared.wires.Action.TheVariants.{S, R, C, A, Np, P}
 use Rattle.rules.specs.declared.wires.Event.TheVariants.{Ninth, Byte, Tick, Stop}
 use Rattle.rules.specs.declared.wires.Level.TheVariants.{Low, High}
 use Rattle.steps.specs.declared.map.Step.TheVariants.{Write, Wire, Reset}
-use Rattle.sheet.specs.Model.{the_part}
-use Rattle.sheet.specs.Run.{Entry, points, Row, Holds, from_reset, does, acts, refuses, writes, reads}
+use Rattle.sheet.specs.Run.{Entry, points, Row, from_reset, does, acts, refuses, writes, reads}
 
 -- 1. Reset: C9h reads 01h, CBh 5Eh, CDh 92h, F6h 63h.
-abbrev row1 : Row
+abbrev pub row1 : Row
 row1 = from_reset (reads 0xC9 0x01 ∷ reads 0xCB 0x5E ∷ reads 0xCD 0x92 ∷ reads 0xF6 0x63 ∷ [])
 
 -- 2. Count 0, STA: no action, CONTROL and CHSTATUS 00h.
-abbrev row2 : Row
+abbrev pub row2 : Row
 row2 = from_reset (writes 0xC4 0 ∷ writes 0xC0 0x40 ∷ reads 0xC0 0x00 ∷ reads 0xC1 0x00 ∷ [])
 
 -- 3. One write, CONTROL 60h from Idle: starts, reads 40h.
-abbrev row3 : Row
+abbrev pub row3 : Row
 row3 = from_reset (writes 0xC4 1 ∷ writes 0xC4 1 ∷ writes 0xC3 0x40 ∷ acts (Write 0xC0 0x60) (S 0x40) ∷ reads 0xC0 0x40 ∷ [])
 
 -- 4. Write to 40h, length 0: S40, ACK gives P.
-abbrev row4 : Row
+abbrev pub row4 : Row
 row4 = from_reset (writes 0xC4 1 ∷ writes 0xC4 0 ∷ writes 0xC3 0x40 ∷ acts (Write 0xC0 0x40) (S 0x40) ∷ acts (Wire 0 (Ninth Low)) P ∷ [])
 
 -- 5. Read length 0, then write 42h length 0: first action S42, STATUS 0 is 02h.
-abbrev row5 : Row
+abbrev pub row5 : Row
 row5 =
     from_reset
     (writes 0xC4 2 ∷ writes 0xC4 0 ∷ writes 0xC4 0
@@ -36,7 +34,7 @@ row5 =
     ∷ [])
 
 -- 6. Read 41h length 2: S41, C, A, NP. Then the two bytes are read back: they come later than STA.
-abbrev row6 : Row
+abbrev pub row6 : Row
 row6 =
     from_reset
     (writes 0xC4 1 ∷ writes 0xC4 2 ∷ writes 0xC3 0x41
@@ -48,7 +46,7 @@ row6 =
     ∷ [])
 
 -- 7. The same, STO before the ACK: C, NP, BYTECOUNT 1, STATUS 01h, CHSTATUS 80h.
-abbrev row7 : Row
+abbrev pub row7 : Row
 row7 =
     from_reset
     (writes 0xC4 1 ∷ writes 0xC4 2 ∷ writes 0xC3 0x41
@@ -61,7 +59,7 @@ row7 =
     ∷ [])
 
 -- 8. FRAMECNT 2, CHSTATUS unread: C0h at the end.
-abbrev row8 : Row
+abbrev pub row8 : Row
 row8 =
     from_reset
     (writes 0xC9 2 ∷ writes 0xC4 1 ∷ writes 0xC4 0 ∷ writes 0xC3 0x40
@@ -71,11 +69,11 @@ row8 =
     ∷ [])
 
 -- writes to 40h and 42h, one byte each
-abbrev two-writes : List Entry
+abbrev pub two-writes : List Entry
 two-writes = writes 0xC4 2 ∷ writes 0xC4 1 ∷ writes 0xC4 1 ∷ writes 0xC3 0x40 ∷ writes 0xC3 0x42 ∷ acts (Write 0xC0 0x40) (S 0x40) ∷ []
 
 -- 9. Writes to 40h and 42h, NACK on the first: P, CHSTATUS 20h. With INTMSK 20h: R42.
-abbrev row9 : Row
+abbrev pub row9 : Row
 row9 =
     from_reset
     (two-writes
@@ -85,7 +83,7 @@ row9 =
     ++ (acts (Wire 0 (Ninth High)) (R 0x42) ∷ [])))
 
 -- 10. Seventeen lengths of 255: TRANSEL 17 points at 4,335; TRANOFS 16 at 4,351; TRANOFS 17 no. 5.
-abbrev row10 : Row
+abbrev pub row10 : Row
 row10 =
     from_reset
     (writes 0xC4 17 ∷ replicate 17 (writes 0xC4 255)
@@ -94,52 +92,5 @@ row10 =
     ∷ refuses (Write 0xC7 17) 5
     ∷ []))
 
-pub sheet : List Row
+unfoldable pub sheet : List Row
 sheet = row1 ∷ row2 ∷ row3 ∷ row4 ∷ row5 ∷ row6 ∷ row7 ∷ row8 ∷ row9 ∷ row10 ∷ []
-
--- ---- the checker computes each row
-
-holds1 : Holds the_part row1
-unfolding Holds the_part
-holds1 = refl
-
-holds2 : Holds the_part row2
-unfolding Holds the_part
-holds2 = refl
-
-holds3 : Holds the_part row3
-unfolding Holds the_part
-holds3 = refl
-
-holds4 : Holds the_part row4
-unfolding Holds the_part
-holds4 = refl
-
-holds5 : Holds the_part row5
-unfolding Holds the_part
-holds5 = refl
-
-holds6 : Holds the_part row6
-unfolding Holds the_part
-holds6 = refl
-
-holds7 : Holds the_part row7
-unfolding Holds the_part
-holds7 = refl
-
-holds8 : Holds the_part row8
-unfolding Holds the_part
-holds8 = refl
-
-holds9 : Holds the_part row9
-unfolding Holds the_part
-holds9 = refl
-
-holds10 : Holds the_part row10
-unfolding Holds the_part
-holds10 = refl
-
--- THE TEN LINES HOLD
-pub sheet_holds : All (Holds the_part) sheet
-unfolding sheet
-sheet_holds = (holds1, (holds2, (holds3, (holds4, (holds5, (holds6, (holds7, (holds8, (holds9, (holds10, tt))))))))))

@@ -2,4 +2,3 @@ pub mod Map
 pub mod Keys
 pub mod Answer
 pub mod Facts
-pub mod Laws

@@ -2,6 +2,4 @@ pub mod State
 pub mod Keys
 pub mod Work
 pub mod Idle
-pub mod IdleWork
 pub mod Facts
-pub mod Laws

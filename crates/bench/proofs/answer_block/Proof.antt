@@ -1,6 +1,6 @@
 -- `bench::answer_block` meets its contract.
 use Prim.Native.Nat.{◌-◌}
-use Rattle.bench.specs.Laws.Blocks.{block-heard}
+use Rattle.bench.proofs.Laws.Blocks.{block-heard}
 use borrow.Author.Rules.{rules}
 use lib.ListN.{drop, length, length-drop}
 use lib.Seq.{take_all}

@@ -1,5 +1,5 @@
 -- `bench::answer_from` meets its contract.
-use Rattle.bench.specs.Laws.Blocks.{from-heard}
+use Rattle.bench.proofs.Laws.Blocks.{from-heard}
 use Rattle.script.specs.Grammar.{line_room}
 use borrow.Author.Rules.{rules}
 use Rattle.bench.proofs.answer_from.Statement.{statement}

@@ -1,5 +1,5 @@
 -- `bench::begin` meets its contract: the header stands in the output.
-use Rattle.bench.specs.Laws.Blocks.{header-put, opens}
+use Rattle.bench.proofs.Laws.Blocks.{header-put, opens}
 use borrow.Author.Rules.{rules}
 use Rattle.bench.proofs.begin.Statement.{statement}
 use Rattle.bench.proofs.begin.Tie as tie

@@ -1,7 +1,7 @@
 -- `bench::finish` meets its contract: an LF is put behind the last line, if that has a byte.
 use Prim.Native.Nat.{ℕ}
-use Rattle.bench.specs.Laws.Blocks.{last_heard, silent_closed}
-use Rattle.runner.specs.Laws.Lines.{put_one}
+use Rattle.bench.proofs.Laws.Blocks.{last_heard, silent_closed}
+use Rattle.runner.proofs.Laws.Lines.{put_one}
 use Rattle.script.specs.Grammar.{line_room}
 use borrow.Author.Rules.{rules}
 use lib.ListN.{drop, take}

@@ -1,7 +1,7 @@
 -- `bench::main` meets its contract: each turn leaves what the next one asks, and all of them are a talk.
 use Prim.Native.Nat.{◌*◌, ◌<◌}
-use Rattle.bench.specs.Laws.Blocks.{opening-ready}
-use Rattle.bench.specs.Laws.Talk.{going_on_lem}
+use Rattle.bench.proofs.Laws.Blocks.{opening-ready}
+use Rattle.bench.proofs.Laws.Talk.{going_on_lem}
 use Rattle.bench.specs.Talk.Talk.{begun, more}
 use Rattle.bench.specs.Talk.{block_size, Ready, Talks}
 use Rattle.bench.specs.declared.How.TheVariants.{On}

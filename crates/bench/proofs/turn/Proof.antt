@@ -1,5 +1,5 @@
 -- `bench::turn` meets its contract: a read failed, the input has ended, or bytes came.
-use Rattle.bench.specs.Laws.Blocks.{heard-turned, silenced-ready}
+use Rattle.bench.proofs.Laws.Blocks.{heard-turned, silenced-ready}
 use Rattle.bench.specs.Talk.Turned.{ended, unread}
 use Rattle.script.specs.Grammar.{line_room}
 use borrow.Author.Rules.{rules}

@@ -1,5 +1,5 @@
 -- `bounds::clear_after` meets its contract: what is asked from i is what is asked from the start.
-use Rattle.bounds.specs.Laws.Range.{clears}
+use Rattle.bounds.proofs.Laws.Range.{clears}
 use Rattle.bounds.proofs.clear_after.Goals as goal
 
 pub returns-then-counts-i-ne0 : goal.returns-then-counts-i-ne0

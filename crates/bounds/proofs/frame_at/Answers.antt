@@ -1,6 +1,6 @@
 -- `bounds::frame_at` meets its contract.
 use Rattle.laws.specs.Cases.{cases}
-use Rattle.bounds.specs.Laws.Range.{ranges}
+use Rattle.bounds.proofs.Laws.Range.{ranges}
 use Rattle.bounds.specs.Range.{frame_at}
 use Rattle.bounds.proofs.frame_at.Goals as goal
 

@@ -14,7 +14,7 @@ use Rattle.rules.specs.declared.registers.Place.{Place}
 use Rattle.rules.specs.declared.registers.Place.TheVariants.{Here}
 use Rattle.rules.specs.Numbers.{buffer_size}
 use Rattle.rules.specs.Access.{preset_of, key_after, resets_of}
-use Rattle.rules.specs.Laws.Access.{not_past, spot_open, sla_open, conf_open, data_open, sel_open}
+use Rattle.rules.proofs.Laws.Access.{not_past, spot_open, sla_open, conf_open, data_open, sel_open}
 use Rattle.rules.specs.Facts.{Known}
 use Rattle.channel.specs.declared.state.Channel.{Channel}
 use Rattle.head.specs.declared.state.Head.{Head}
@@ -24,7 +24,7 @@ use Rattle.head.specs.Access.{read_refusal, refusal_of}
 use Rattle.channel.specs.Access.{written_by, write_of, put_of}
 use Rattle.channel.specs.Step.{write_at}
 use Rattle.channel.specs.Facts.{Accepted}
-use Rattle.channel.specs.Laws.Range.{range_count, range_sel}
+use Rattle.channel.proofs.Laws.Range.{range_count, range_sel}
 
 -- ---- a register of which there are several
 pub known_status : (reg : Register) (n : ℕ) → Known reg → reg ≡ Status n → n < 64

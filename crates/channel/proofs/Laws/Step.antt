@@ -19,13 +19,13 @@ use Rattle.sequence.specs.declared.wires.Turn.{Turn}
 use Rattle.rules.specs.Numbers.{buffer_size, done, out_of_range}
 use Rattle.rules.specs.Tables.{reads_of}
 use Rattle.bounds.specs.Range.{counted_in, frame_at, frame_in}
-use Rattle.bounds.specs.Laws.Range.{stands_of, frame-counted, stands_running}
-use Rattle.sequence.specs.Laws.Meeting.{Meeting, meeting}
-use Rattle.sequence.specs.Laws.Meeting.Meeting.{unawaited, ack_address_lem, ack_sending_lem, receive, nack_address, nack_sending, begin, late, end, sda, scl, ill}
+use Rattle.bounds.proofs.Laws.Range.{stands_of, frame-counted, stands_running}
+use Rattle.sequence.proofs.Laws.Meeting.{Meeting, meeting}
+use Rattle.sequence.proofs.Laws.Meeting.Meeting.{unawaited, ack_address_lem, ack_sending_lem, receive, nack_address, nack_sending, begin, late, end, sda, scl, ill}
 use Rattle.rules.specs.Facts.{Known, KnownPlace, Running}
 use Rattle.head.specs.declared.state.Head.{Head}
 use Rattle.head.specs.Range.{head_in}
-use Rattle.head.specs.Laws.Range.{head_count}
+use Rattle.head.proofs.Laws.Range.{head_count}
 use Rattle.channel.specs.declared.state.Channel.{Channel}
 use Rattle.channel.specs.Range.{in_range}
 use Rattle.channel.specs.declared.state.Stepped.{Stepped}
@@ -33,7 +33,7 @@ use Rattle.channel.specs.State.{Served, leaving, count_of}
 use Rattle.head.specs.Head.{framecnt_of, kind_of, turn_at}
 use Rattle.channel.specs.Step.{range_number}
 use Rattle.channel.specs.Facts.{Accepted, Meets}
-use Rattle.channel.specs.Laws.Range.{range_count, range_frame}
+use Rattle.channel.proofs.Laws.Range.{range_count, range_frame}
 
 pub accepts : (c : Channel) (m : List ℕ) (n : ℕ) → n ≡ range_number (length m) (in_range c) → n ≡ 0 → Accepted c m
 unfolding range_number

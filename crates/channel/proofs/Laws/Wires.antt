@@ -17,7 +17,7 @@ use Rattle.rules.specs.Tables.{start_of, fitting, reads_of, marked}
 use Rattle.sequence.specs.declared.wires.Beginning.{Beginning}
 use Rattle.sequence.specs.declared.wires.Tail.{Tail}
 use Rattle.sequence.specs.Wires.{beginning_of, reach_of, move_of, next_of, masked_of}
-use Rattle.rules.specs.Laws.Tables.{start_next}
+use Rattle.rules.proofs.Laws.Tables.{start_next}
 use Rattle.rules.specs.Facts.{Running}
 use Rattle.sequence.specs.Facts.{Counting, Exists, Ready}
 use Rattle.channel.specs.declared.state.Channel.{Channel}

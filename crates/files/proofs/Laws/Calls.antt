@@ -17,14 +17,14 @@ use Rattle.channel.specs.declared.state.Stepped.{Stepped}
 use Rattle.channel.specs.State.{on}
 use Rattle.works.specs.Work.{Own, Work}
 use Rattle.works.specs.Facts.{Took}
-use Rattle.works.specs.Laws.Idle.{deed_open}
+use Rattle.works.proofs.Laws.Idle.{deed_open}
 use Rattle.works.specs.Idle.{own_by, deed_number, deed_after, deed_out}
 use Rattle.files.specs.File.{file_of, fault_of, fault_number, over}
 use Rattle.files.specs.Work.{loaded, loaded_bytes, tables_file, file_from, room_number}
 use Rattle.files.specs.Deeds.{load_deed, save_deed, load_work, save_work}
 use Rattle.files.specs.Facts.{Filed, Saved}
 use Rattle.files.specs.Laws.File.{number_readable, readable_count, readable_long, readable_fits}
-use Rattle.files.specs.Laws.Trips.{fits_room}
+use Rattle.files.proofs.Laws.Trips.{fits_room}
 
 -- what is known of a readable file's length
 filed : (f : List ℕ) → fault_number (fault_of f) ≡ 0 → Filed f

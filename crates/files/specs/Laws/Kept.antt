@@ -1,10 +1,10 @@
 -- A file that is read leads neither out of range nor to another number of bytes.
 use Rattle.std.specs.Prelude.{ℕ, ◌≤◌, List, ◌≡◌, length, drop}
 use Rattle.std.proofs.Common.{◌∙◌, arith, length-append, length-drop}
-use Rattle.bounds.specs.Laws.Range.{points_of, of_points, of_registers, registers_mask}
+use Rattle.bounds.proofs.Laws.Range.{points_of, of_points, of_registers, registers_mask}
 use Rattle.channel.specs.State.{zeros}
-use Rattle.channel.specs.Laws.Frames.{in_of, of_in}
-use Rattle.channel.specs.Laws.Kept.{idle-frame, zeros-length}
+use Rattle.channel.proofs.Laws.Frames.{in_of, of_in}
+use Rattle.channel.proofs.Laws.Kept.{idle-frame, zeros-length}
 use Rattle.works.specs.Work.{Own, Sound}
 use Rattle.works.specs.Idle.{IdleOwn}
 use Rattle.files.specs.File.{count_in, data_in, fault_of, fault_number, over}

@@ -1,6 +1,6 @@
 -- `interrupt::calm` meets its contract: the word is 0 where no flag is set.
 use mathlib.Core.Path.{refl}
-use Rattle.interrupt.specs.Laws.Interrupt.{calm_word}
+use Rattle.interrupt.proofs.Laws.Interrupt.{calm_word}
 use Rattle.interrupt.proofs.calm.Goals as goal
 
 pub returns : goal.returns

@@ -1,6 +1,6 @@
 -- `interrupt::causes` meets its contract: row by row.
 use Rattle.interrupt.specs.Interrupt.{causes_of}
-use Rattle.interrupt.specs.Laws.Interrupt.{rows}
+use Rattle.interrupt.proofs.Laws.Interrupt.{rows}
 use Rattle.interrupt.proofs.causes.Goals as goal
 
 pub returns : goal.returns

@@ -1,6 +1,6 @@
 -- `interrupt::pending` meets its contract.
 use Rattle.interrupt.specs.Interrupt.{pending_of}
-use Rattle.interrupt.specs.Laws.Interrupt.{rows, calm_pending}
+use Rattle.interrupt.proofs.Laws.Interrupt.{rows, calm_pending}
 use mathlib.Core.Path.{◌∙◌, sym}
 use Rattle.interrupt.proofs.pending.Goals as goal
 

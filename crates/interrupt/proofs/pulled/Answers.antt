@@ -1,6 +1,6 @@
 -- `interrupt::pulled` meets its contract.
 use Rattle.interrupt.specs.Interrupt.{pulled_by}
-use Rattle.interrupt.specs.Laws.Interrupt.{rows}
+use Rattle.interrupt.proofs.Laws.Interrupt.{rows}
 use Rattle.interrupt.proofs.pulled.Goals as goal
 
 pub returns : goal.returns

@@ -1,6 +1,6 @@
 -- `interrupt::pulls` meets its contract: row by row.
 use Rattle.interrupt.specs.Interrupt.{pulls_of}
-use Rattle.interrupt.specs.Laws.Interrupt.{rows}
+use Rattle.interrupt.proofs.Laws.Interrupt.{rows}
 use Rattle.interrupt.proofs.pulls.Goals as goal
 
 pub returns : goal.returns

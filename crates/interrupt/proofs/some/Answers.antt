@@ -1,5 +1,5 @@
 -- `interrupt::some` meets its contract: no row before the i-th holds.
-use Rattle.interrupt.specs.Laws.Interrupt.{looked, holds_behind}
+use Rattle.interrupt.proofs.Laws.Interrupt.{looked, holds_behind}
 use Rattle.interrupt.proofs.some.Goals as goal
 
 pub returns-then-rows-i : goal.returns-then-rows-i

@@ -13,7 +13,7 @@ use lib.Seq.{drop-cons}
 use Rattle.laws.specs.Pick.{if◌then◌else◌}
 use Rattle.laws.specs.Cases.{both}
 use Rattle.script.specs.Grammar.{is_hex, hex_of, digit_at, suiting, in_form}
-use Rattle.script.specs.Laws.Grammar.{fit_length}
+use Rattle.script.proofs.Laws.Grammar.{fit_length}
 
 pub fit_all : (f l : List ℕ) (i : ℕ) → length f ≡ length l → in_form f l ≡ in_form (drop i f) (drop i l) → length f ≤ i → true ≡ in_form f l
 unfolding in_form

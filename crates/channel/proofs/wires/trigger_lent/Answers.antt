@@ -1,5 +1,5 @@
 -- `channel::wires::trigger_lent` meets its contract.
-use Rattle.channel.specs.Laws.Range.{range_count}
+use Rattle.channel.proofs.Laws.Range.{range_count}
 use Rattle.channel.specs.Wires.{triggered}
 use Rattle.channel.proofs.wires.trigger_lent.Goals as goal
 

@@ -3,7 +3,7 @@ use Rattle.files.proofs.Laws.Calls.{load_filed, load-refused, load-done}
 use Rattle.files.specs.Deeds.{load_deed}
 use Rattle.files.specs.File.{fault_number}
 use Rattle.works.specs.Idle.{own_by, deed_number}
-use Rattle.works.specs.Laws.Idle.{deed_is}
+use Rattle.works.proofs.Laws.Idle.{deed_is}
 use mathlib.Core.Path.{◌≡◌, ◌∙◌, ap}
 use Rattle.files.proofs.single.load_sound.Goals as goal
 

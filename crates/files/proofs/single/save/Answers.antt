@@ -3,7 +3,7 @@ use Rattle.channel.specs.declared.state.Stepped.{Stepped}
 use Rattle.files.proofs.Laws.Calls.{save_leaves}
 use Rattle.files.specs.Deeds.{save_work}
 use Rattle.works.specs.Idle.{numbered, own_by}
-use Rattle.works.specs.Laws.Calls.{alone_accepts, alone_kept, alone_gave}
+use Rattle.works.proofs.Laws.Calls.{alone_accepts, alone_kept, alone_gave}
 use Rattle.works.specs.Work.{Own}
 use borrow.Author.Rules.{rules}
 use mathlib.Core.Path.{sym, ◌∙◌, ap}

@@ -1,9 +1,9 @@
 -- `files::single::save_sound` meets its contract: refused, or written.
-use Rattle.channel.specs.Laws.Range.{range_count}
+use Rattle.channel.proofs.Laws.Range.{range_count}
 use Rattle.files.proofs.Laws.Calls.{save_room, save_refused, save_done}
 use Rattle.files.specs.Deeds.{save_deed}
 use Rattle.works.specs.Idle.{own_by, deed_number}
-use Rattle.works.specs.Laws.Idle.{deed_is}
+use Rattle.works.proofs.Laws.Idle.{deed_is}
 use Rattle.works.specs.Work.{Own}
 use Prim.Native.Nat.{ℕ}
 use lib.ListN.{get_or}

@@ -4,7 +4,7 @@ use Rattle.files.proofs.Laws.Calls.{took_in}
 use Rattle.files.specs.Deeds.{load_work}
 use Rattle.part.specs.State.{chan}
 use Rattle.rules.specs.Numbers.{buffer_size}
-use Rattle.works.specs.Laws.Calls.{window-ends, window-lent, window_accepted, call_took}
+use Rattle.works.proofs.Laws.Calls.{window-ends, window-lent, window_accepted, call_took}
 use borrow.Author.Rules.{rules}
 use lib.ListN.{length}
 use mathlib.Core.Path.{refl}

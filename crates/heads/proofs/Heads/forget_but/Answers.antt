@@ -3,7 +3,7 @@ use mathlib.Core.Path.{◌≡◌}
 use lib.ListN.{length, length-map}
 use borrow.Author.Rules.{rules}
 use Rattle.heads.specs.Heads.{common_left}
-use Rattle.heads.specs.Laws.Keys.{three_left}
+use Rattle.heads.proofs.Laws.Keys.{three_left}
 use Rattle.heads.proofs.Heads.forget_but.Goals as goal
 
 pub returns : goal.returns

@@ -7,7 +7,7 @@ use Rattle.part.specs.Registers.{ctrl_read}
 use Rattle.part.specs.Rows.{rows_in}
 use Rattle.part.specs.State.{refused_part}
 use Rattle.part.specs.Step.{all_served, all_stored}
-use Rattle.part.specs.Laws.Rows.{tells_gives}
+use Rattle.part.proofs.Laws.Rows.{tells_gives}
 use Rattle.part.proofs.rows.all.Goals as goal
 
 -- CtrlWrite

@@ -5,7 +5,7 @@ use native.Mathlib.Nat.{le-add_right}
 use native.Mathlib.Omega.{arith}
 use borrow.Author.Rules.{rules}
 use Rattle.rules.specs.Numbers.{buffer_size}
-use Rattle.part.specs.Laws.Rows.{one_accepted, one_left}
+use Rattle.part.proofs.Laws.Rows.{one_accepted, one_left}
 use Rattle.part.specs.Rows.{rows_in}
 use Rattle.part.proofs.rows.one.Goals as goal
 

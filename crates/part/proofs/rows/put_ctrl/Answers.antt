@@ -10,7 +10,7 @@ use Rattle.part.specs.Registers.{ctrl_put, ctrl_store, ctrl_written}
 use Rattle.steps.specs.Keys.{ctrlpreset_of}
 use Rattle.part.specs.Rows.{rows_in}
 use Rattle.part.specs.State.{with_key}
-use Rattle.part.specs.Laws.Rows.{tells_gives}
+use Rattle.part.proofs.Laws.Rows.{tells_gives}
 use Rattle.part.proofs.rows.put_ctrl.Goals as goal
 
 pub returns-then-resets : goal.returns-then-resets

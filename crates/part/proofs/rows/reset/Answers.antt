@@ -11,9 +11,9 @@ use Rattle.part.proofs.rows.reset.Goals as goal
 pub returns : goal.returns
 unfolding wiped
 returns c = (
-      record {
-        holds = rw (c.tell.ensures.0, ← c.new.ensures) c.spread.ensures;
-        answer = ap (λ (x : PartStepped). x.answer) (c.tell.ensures.1.1 (rows_of (fresh_part c.args.d)));
-      },
-      c.wipe.ensures ∙ ap (λ (n : ℕ). replicate n 0) c.requires.1,
-    )
+  record {
+    holds = rw (c.tell.ensures.0, ← c.new.ensures) c.spread.ensures;
+    answer = ap (λ (x : PartStepped). x.answer) (c.tell.ensures.1.1 (rows_of (fresh_part c.args.d)));
+  },
+  c.wipe.ensures ∙ ap (λ (n : ℕ). replicate n 0) c.requires.1,
+)

@@ -4,8 +4,8 @@ use mathlib.Core.Path.{subst}
 use Rattle.steps.specs.declared.map.Target.{Target}
 use Rattle.part.specs.Step.{forgetting}
 use Rattle.part.specs.Rows.{Holds, rows_in, gathered}
-use Rattle.part.specs.Laws.Kept.{left-whole}
-use Rattle.part.specs.Laws.Rows.{found_holds, found-ready, holds_one-ready, holds_part, one_gives, step_all, step_one}
+use Rattle.part.proofs.Laws.Kept.{left-whole}
+use Rattle.part.proofs.Laws.Rows.{found_holds, found-ready, holds_one-ready, holds_part, one_gives, step_all, step_one}
 use Rattle.part.proofs.rows.serve.Goals as goal
 
 -- the channel's number is below 3
@@ -27,7 +27,7 @@ returns-in-One c =
     let t = rows_in c.args.sla.now c.args.lens.now c.args.status.now c.args.counts.now in
     let p = gathered c.args.heads t in
     let held = subst (λ (x : Target). Holds (forgetting x p) c.forget-left.result t) c.in-One.is
-        (found_holds c.args.heads t _ c.requires.0 c.args.t c.forget-left.result c.forget-left.ensures) in
+    (found_holds c.args.heads t _ c.requires.0 c.args.t c.forget-left.result c.forget-left.ensures) in
     rw c.store.ensures
     (step_one p _ c.args.t _ _ _ _ _ c.in-One.is (one_gives _ c.forget-left.result t held _ _ _ c.one-r.result _ _ c.one-r.ensures))
 
@@ -37,5 +37,5 @@ returns-in-All c =
     let t = rows_in c.args.sla.now c.args.lens.now c.args.status.now c.args.counts.now in
     let p = gathered c.args.heads t in
     let held = subst (λ (x : Target). Holds (forgetting x p) c.forget-left.result t) c.in-All.is
-        (found_holds c.args.heads t _ c.requires.0 c.args.t c.forget-left.result c.forget-left.ensures) in
+    (found_holds c.args.heads t _ c.requires.0 c.args.t c.forget-left.result c.forget-left.ensures) in
     step_all p _ c.args.t _ _ _ _ c.in-All.is (rw (holds_part _ c.forget-left.result t held) at c.all.ensures)

@@ -2,8 +2,8 @@
 use native.Mathlib.Omega.{arith}
 use borrow.Author.Rules.{rules}
 use Rattle.part.specs.Rows.{rows_in, gathered}
-use Rattle.part.specs.Laws.Range.{chan-in_range}
-use Rattle.part.specs.Laws.Rows.{edges_give, second_in_range, third_in_range}
+use Rattle.part.proofs.Laws.Range.{chan-in_range}
+use Rattle.part.proofs.Laws.Rows.{edges_give, second_in_range, third_in_range}
 use Rattle.part.proofs.rows.trigger_each.Goals as goal
 
 pub edge_at-x-requires : goal.edge_at-x-requires

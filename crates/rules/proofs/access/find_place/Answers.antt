@@ -1,5 +1,5 @@
 -- `rules::access::find_place` meets its contract.
-use Rattle.rules.specs.Laws.Access.{past_all, is_place, no_place}
+use Rattle.rules.proofs.Laws.Access.{past_all, is_place, no_place}
 use Rattle.rules.proofs.access.find_place.Goals as goal
 
 pub returns-then-at-ge-BUFFER : goal.returns-then-at-ge-BUFFER

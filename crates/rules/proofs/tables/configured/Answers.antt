@@ -1,6 +1,6 @@
 -- `rules::tables::configured` meets its contract: the place is the start of the transaction that comes next, and what is left of it.
 use borrow.Author.Rules.{rules}
-use Rattle.rules.specs.Laws.Tables.{within, behind_none, behind, behind_all}
+use Rattle.rules.proofs.Laws.Tables.{within, behind_none, behind, behind_all}
 use Rattle.rules.proofs.tables.configured.Goals as goal
 
 pub loop-i-init : goal.loop-i-init

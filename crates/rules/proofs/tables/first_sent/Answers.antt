@@ -1,5 +1,5 @@
 -- `rules::tables::first_sent` meets its contract: what is found from i is what is found from the start, of whichever kind skips reads up to that length.
-use Rattle.rules.specs.Laws.Tables.{sent_end, sent-found, sent-more}
+use Rattle.rules.proofs.Laws.Tables.{sent_end, sent-found, sent-more}
 use borrow.Author.Rules.{rules}
 use Rattle.rules.proofs.tables.first_sent.Goals as goal
 

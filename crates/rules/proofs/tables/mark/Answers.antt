@@ -1,5 +1,5 @@
 -- `rules::tables::mark` meets its contract: what is marked from i on is what is marked from the start.
-use Rattle.rules.specs.Laws.Tables.{marks}
+use Rattle.rules.proofs.Laws.Tables.{marks}
 use Rattle.rules.proofs.tables.mark.Goals as goal
 
 pub loop-i-preserved : goal.loop-i-preserved

@@ -1,6 +1,6 @@
 -- `rules::tables::skips` meets its contract.
 use Rattle.laws.specs.Cases.{cases}
-use Rattle.rules.specs.Laws.Tables.{skips_of}
+use Rattle.rules.proofs.Laws.Tables.{skips_of}
 use borrow.Author.Rules.{rules}
 use Rattle.rules.proofs.tables.skips.Goals as goal
 

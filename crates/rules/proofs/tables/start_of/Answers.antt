@@ -1,5 +1,5 @@
 -- `rules::tables::start_of` meets its contract: the sum so far is `start_of` at the lengths passed.
-use Rattle.rules.specs.Laws.Tables.{starts}
+use Rattle.rules.proofs.Laws.Tables.{starts}
 use Rattle.rules.proofs.tables.start_of.Goals as goal
 
 pub loop-i-init : goal.loop-i-init

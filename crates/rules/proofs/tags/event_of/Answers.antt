@@ -3,7 +3,7 @@ use mathlib.Core.Path.{sym}
 use Rattle.laws.specs.Pick.{if◌then◌else◌}
 use Rattle.rules.specs.declared.wires.Event.TheVariants.{Byte}
 use Rattle.rules.specs.Tags.{same_tag, known_as, plain_of}
-use Rattle.rules.specs.Laws.Tags.{event_back, another_kind}
+use Rattle.rules.proofs.Laws.Tags.{event_back, another_kind}
 use Rattle.rules.proofs.tags.event_of.Goals as goal
 
 pub returns-in-9 : goal.returns-in-9

@@ -8,13 +8,13 @@ use lib.Dec.{ltb}
 use lib.ListN.{length}
 use borrow.Author.Tests.{ltb-true, lt-ltb}
 use Rattle.part.specs.Rows.{as_rows, Holds}
-use Rattle.part.specs.Laws.Kept.{left-whole}
-use Rattle.part.specs.Laws.Rows.{holds_one-ready, holds_part, holds_ready}
+use Rattle.part.proofs.Laws.Kept.{left-whole}
+use Rattle.part.proofs.Laws.Rows.{holds_one-ready, holds_part, holds_ready}
 use Rattle.runner.specs.Run.{line_target}
 use Rattle.runner.specs.declared.answering.Course.{Course}
-use Rattle.runner.specs.Laws.Feeding.{going_done, going_on_lem, put-length}
-use Rattle.runner.specs.Laws.Lines.{end_after, end_in}
-use Rattle.runner.specs.Laws.Performing.{Performs, asked-left, left_by, line_one, line_rest, none_asked}
+use Rattle.runner.proofs.Laws.Feeding.{going_done, going_on_lem, put-length}
+use Rattle.runner.proofs.Laws.Lines.{end_after, end_in}
+use Rattle.runner.proofs.Laws.Performing.{Performs, asked-left, left_by, line_one, line_rest, none_asked}
 use Rattle.runner.proofs.answering.answer_lines.Goals as goal
 use Rattle.runner.proofs.answering.answer_lines.Goals.{then-may_forget, else-may_forget, in-One, in-Others}
 
@@ -57,10 +57,10 @@ one-r-requires c =
     let is = c.aim_of-a.ensures.0 in
     let left : Holds (left_by l g.part) c.if-may_forget.heads t =
     elim c.if-may_forget.branch [
-      then-may_forget w ↦
-        asked-left g.part c.loop-from.heads t g.holds l _ is w.aim_target.result w.aim_target.ensures c.if-may_forget.heads (w.heads-is ∙ w.forget-left.ensures)
-    | else-may_forget w ↦
-        none_asked g.part c.loop-from.heads t g.holds l _ is c.if-may_forget.heads w.heads-is (sym c.may_forget.ensures ∙ w.if-may_forget.false)
+      | then-may_forget w ↦
+          asked-left g.part c.loop-from.heads t g.holds l _ is w.aim_target.result w.aim_target.ensures c.if-may_forget.heads (w.heads-is ∙ w.forget-left.ensures)
+      | else-may_forget w ↦
+          none_asked g.part c.loop-from.heads t g.holds l _ is c.if-may_forget.heads w.heads-is (sym c.may_forget.ensures ∙ w.if-may_forget.false)
     ] in
     let below : c.in-One.c < 3 = rw c.in-One.is at c.aim_of-a.ensures.1 in
     holds_one-ready _ c.if-may_forget.heads t left _ (left-whole g.part c.loop-from.mem (line_target l) g.whole) _ below
@@ -73,10 +73,10 @@ perform-r-requires c =
     let is = c.aim_of-a.ensures.0 in
     let left : Holds (left_by l g.part) c.if-may_forget.heads t =
     elim c.if-may_forget.branch [
-      then-may_forget w ↦
-        asked-left g.part c.loop-from.heads t g.holds l _ is w.aim_target.result w.aim_target.ensures c.if-may_forget.heads (w.heads-is ∙ w.forget-left.ensures)
-    | else-may_forget w ↦
-        none_asked g.part c.loop-from.heads t g.holds l _ is c.if-may_forget.heads w.heads-is (sym c.may_forget.ensures ∙ w.if-may_forget.false)
+      | then-may_forget w ↦
+          asked-left g.part c.loop-from.heads t g.holds l _ is w.aim_target.result w.aim_target.ensures c.if-may_forget.heads (w.heads-is ∙ w.forget-left.ensures)
+      | else-may_forget w ↦
+          none_asked g.part c.loop-from.heads t g.holds l _ is c.if-may_forget.heads w.heads-is (sym c.may_forget.ensures ∙ w.if-may_forget.false)
     ] in
     holds_ready _ c.if-may_forget.heads t left _ (left-whole g.part c.loop-from.mem (line_target l) g.whole)
 
@@ -96,21 +96,21 @@ loop-from-preserved c =
     let lf : c.loop-from.end < length block = ltb-true _ _ (sym c.has_lf.ensures ∙ c.loop-from-test.true) in
     let left : Holds (left_by l v.part) c.if-may_forget.heads t =
     elim c.if-may_forget.branch [
-      then-may_forget w ↦
-        asked-left v.part c.loop-from.heads t v.holds l _ is w.aim_target.result w.aim_target.ensures c.if-may_forget.heads (w.heads-is ∙ w.forget-left.ensures)
-    | else-may_forget w ↦
-        none_asked v.part c.loop-from.heads t v.holds l _ is c.if-may_forget.heads w.heads-is (sym c.may_forget.ensures ∙ w.if-may_forget.false)
+      | then-may_forget w ↦
+          asked-left v.part c.loop-from.heads t v.holds l _ is w.aim_target.result w.aim_target.ensures c.if-may_forget.heads (w.heads-is ∙ w.forget-left.ensures)
+      | else-may_forget w ↦
+          none_asked v.part c.loop-from.heads t v.holds l _ is c.if-may_forget.heads w.heads-is (sym c.may_forget.ensures ∙ w.if-may_forget.false)
     ] in
     let j = c.match-a in
     let rows = as_rows j.sla j.lens j.status j.counts in
     let done : Performs v.part c.loop-from.mem l (record { heads = j.heads; answer = j.answer }) rows j.mem =
     elim j.branch [
-      in-One w ↦
-        rw (w.mem-is, w.sla-is, w.lens-is, w.status-is, w.counts-is, w.heads-is, w.answer-is)
-        (line_one v.part c.loop-from.mem v.whole c.if-may_forget.heads t l left _ is _ _ w.one-r.result _ _ w.in-One.is w.one-r.ensures)
-    | in-Others w ↦
-        rw (w.mem-is, w.sla-is, w.lens-is, w.status-is, w.counts-is, w.heads-is, w.answer-is)
-        (line_rest v.part c.loop-from.mem v.whole c.if-may_forget.heads t l left _ is _ w.perform-r.result _ _ w.in-Others.is w.perform-r.ensures)
+      | in-One w ↦
+          rw (w.mem-is, w.sla-is, w.lens-is, w.status-is, w.counts-is, w.heads-is, w.answer-is)
+          (line_one v.part c.loop-from.mem v.whole c.if-may_forget.heads t l left _ is _ _ w.one-r.result _ _ w.in-One.is w.one-r.ensures)
+      | in-Others w ↦
+          rw (w.mem-is, w.sla-is, w.lens-is, w.status-is, w.counts-is, w.heads-is, w.answer-is)
+          (line_rest v.part c.loop-from.mem v.whole c.if-may_forget.heads t l left _ is _ w.perform-r.result _ _ w.in-Others.is w.perform-r.ensures)
     ] in (
       put-length _ _ _ _ _ c.write_answer-at.ensures.0 ∙ c.loop-from.invariant.0,
       going_on_lem block _ _ _ c.loop-from.heads t c.loop-from.mem c.loop-from.out c.loop-from.step c.loop-from.from c.loop-from.at

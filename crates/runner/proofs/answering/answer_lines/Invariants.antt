@@ -11,14 +11,14 @@ use borrow.Author.Rules.{rules}
 use borrow.Author.Tests.{ltb-true, lt-ltb}
 use Rattle.part.specs.Facts.{Whole}
 use Rattle.part.specs.Rows.{Rows, as_rows, gathered, Holds, Ready}
-use Rattle.part.specs.Laws.Kept.{left-whole}
-use Rattle.part.specs.Laws.Rows.{holds_one-ready, holds_part, holds_ready}
+use Rattle.part.proofs.Laws.Kept.{left-whole}
+use Rattle.part.proofs.Laws.Rows.{holds_one-ready, holds_part, holds_ready}
 use Rattle.script.specs.declared.reading.Line.{Line}
 use Rattle.runner.specs.Run.{line_target}
 use Rattle.runner.specs.declared.answering.Course.{Course}
-use Rattle.runner.specs.Laws.Feeding.{Going, going_done, going_on_lem, put-length}
-use Rattle.runner.specs.Laws.Lines.{end_after, end_in}
-use Rattle.runner.specs.Laws.Performing.{Performs, asked-left, left_by, line_one, line_rest, none_asked}
+use Rattle.runner.proofs.Laws.Feeding.{Going, going_done, going_on_lem, put-length}
+use Rattle.runner.proofs.Laws.Lines.{end_after, end_in}
+use Rattle.runner.proofs.Laws.Performing.{Performs, asked-left, left_by, line_one, line_rest, none_asked}
 use Rattle.runner.proofs.answering.answer_lines.Given as goal
 
 abbrev pub invariant-loop-from : goal.invariant-loop-from

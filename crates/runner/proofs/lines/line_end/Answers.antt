@@ -1,6 +1,6 @@
 -- `runner::lines::line_end` meets its contract: until the first LF the end of the line stays the same.
 use Prim.Native.Nat.{ℕ, suc, ◌+◌, ◌<◌, ◌≤◌}
-use Rattle.runner.specs.Laws.Lines.{end_last, ends_here, goes_on}
+use Rattle.runner.proofs.Laws.Lines.{end_last, ends_here, goes_on}
 use Rattle.runner.specs.Lines.{line_end}
 use lib.ListN.{get_or, length}
 use mathlib.Core.List.{List}

@@ -1,7 +1,7 @@
 -- `seq::commands::load_text` meets its contract: what the library read is a readable file.
 use Rattle.part.specs.State.{wiped}
-use Rattle.files.specs.Laws.Answered.{load-answered}
-use Rattle.seq.specs.Laws.Commands.{load_number}
+use Rattle.files.proofs.Laws.Answered.{load-answered}
+use Rattle.seq.proofs.Laws.Commands.{load_number}
 use borrow.Author.Rules.{rules}
 use mathlib.Core.Path.{◌∙◌, refl, sym}
 use native.Mathlib.Omega.{arith}

@@ -1,7 +1,7 @@
 -- `seq::commands::save_file` meets its contract: the header of the file that was written says its length.
 use Rattle.part.specs.State.{wiped}
-use Rattle.files.specs.Laws.Answered.{save_answered}
-use Rattle.seq.specs.Laws.Commands.{save_number, save_out}
+use Rattle.files.proofs.Laws.Answered.{save_answered}
+use Rattle.seq.proofs.Laws.Commands.{save_number, save_out}
 use borrow.Author.Rules.{rules}
 use mathlib.Core.Path.{◌∙◌, sym}
 use native.Mathlib.Omega.{arith}

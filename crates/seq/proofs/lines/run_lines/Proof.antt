@@ -1,9 +1,9 @@
 -- `seq::lines::run_lines` meets its contract: a turn does one line, and what is left to do gives what all gives.
 use Prim.Native.Nat.{◌-◌, ◌≤◌}
 use Rattle.runner.specs.Run.{start}
-use Rattle.runner.specs.Laws.Lines.{end_after, end_in}
+use Rattle.runner.proofs.Laws.Lines.{end_after, end_in}
 use Rattle.seq.specs.declared.lines.Tally.{Tally}
-use Rattle.seq.specs.Laws.Lines.{Going, going_on_lem, going_done}
+use Rattle.seq.proofs.Laws.Lines.{Going, going_on_lem, going_done}
 use borrow.Author.Rules.{rules}
 use lib.ListN.{length}
 use mathlib.Core.Path.{◌≡◌, refl, ap}

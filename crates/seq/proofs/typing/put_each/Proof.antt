@@ -2,7 +2,7 @@
 use Prim.Native.Nat.{◌≤◌, ◌+◌, ◌*◌, ◌-◌}
 use Rattle.files.specs.Typed.{each_to}
 use Rattle.seq.specs.Typing.{script_of}
-use Rattle.seq.specs.Laws.Typing.{eaches}
+use Rattle.seq.proofs.Laws.Typing.{eaches}
 use lib.ListN.{length, drop}
 use lib.Seq.{sets}
 use mathlib.Core.Path.{◌≡◌}

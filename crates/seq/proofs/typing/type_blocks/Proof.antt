@@ -1,6 +1,6 @@
 -- `seq::typing::type_blocks` meets its contract: seven texts, one after the other.
-use Rattle.runner.specs.Laws.Feeding.{put_then}
-use Rattle.seq.specs.Laws.Typing.{blocks_text}
+use Rattle.runner.proofs.Laws.Feeding.{put_then}
+use Rattle.seq.proofs.Laws.Typing.{blocks_text}
 use borrow.Author.Rules.{rules}
 use native.Mathlib.Omega.{arith}
 use Rattle.seq.proofs.typing.type_blocks.Statement.{statement}

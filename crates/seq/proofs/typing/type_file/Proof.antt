@@ -1,7 +1,7 @@
 -- `seq::typing::type_file` meets its contract: the blocks of a readable file stand where its count says.
 use Prim.Native.Nat.{◌+◌, ◌≤◌}
 use Rattle.files.specs.Laws.File.{readable_long}
-use Rattle.seq.specs.Laws.Typing.{all_there, addresses_few, lengths_few, bytes_few, typed_there}
+use Rattle.seq.proofs.Laws.Typing.{all_there, addresses_few, lengths_few, bytes_few, typed_there}
 use borrow.Author.Rules.{rules}
 use lib.ListN.{length}
 use native.Mathlib.Omega.{arith}

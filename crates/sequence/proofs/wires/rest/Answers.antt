@@ -1,5 +1,5 @@
 -- `sequence::wires::rest` meets its contract.
-use Rattle.sequence.specs.Laws.Wires.{frames}
+use Rattle.sequence.proofs.Laws.Wires.{frames}
 use Rattle.sequence.specs.Wires.{rest_of}
 use Rattle.sequence.proofs.wires.rest.Goals as goal
 

@@ -1,5 +1,5 @@
 -- `steps::answer::act_at` meets its contract.
-use Rattle.steps.specs.Laws.Acts.{only_at_lem}
+use Rattle.steps.proofs.Laws.Acts.{only_at_lem}
 use Rattle.steps.proofs.answer.act_at.Goals as goal
 
 pub returns : goal.returns

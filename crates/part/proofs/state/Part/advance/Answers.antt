@@ -1,5 +1,5 @@
 -- `part::state::Part::advance` meets its contract: the part taken apart, served, and put together.
-use Rattle.part.specs.Laws.Rows.{gives_step, holds_part, holds_ready, step_by}
+use Rattle.part.proofs.Laws.Rows.{gives_step, holds_part, holds_ready, step_by}
 use Rattle.part.proofs.state.Part.advance.Goals as goal
 
 pub serve-r-requires : goal.serve-r-requires

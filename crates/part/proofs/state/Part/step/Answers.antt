@@ -1,6 +1,6 @@
 -- `part::state::Part::step` meets its contract.
 use Rattle.laws.specs.Cases.{pick-false}
-use Rattle.part.specs.Laws.Range.{accepts-whole}
+use Rattle.part.proofs.Laws.Range.{accepts-whole}
 use Rattle.part.specs.Step.{part_bytes, part_step}
 use borrow.Author.Rules.{rules}
 use borrow.Author.Tests.{not-false, not-true}

@@ -1,5 +1,0 @@
--- Laws of the definitions, for the proofs of functions and for the layers above. Nothing here needs to be believed: it is proved.
-pub mod Frames
-pub mod Kept
-pub mod Range
-pub mod Straps

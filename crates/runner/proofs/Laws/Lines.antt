@@ -1,0 +1,169 @@
+-- Where a line ends, and that one which came in pieces is read as the whole line is.
+use Rattle.std.specs.Prelude.{ℕ, ◌+◌, ◌-◌, ◌<◌, ◌≤◌, Bool, true, false, List, [], ◌∷◌, ◌++◌, ◌≡◌, refl, eqb, leb, ltb, length, get_or, take, drop, set}
+use Rattle.std.proofs.Common.{append-nil, append_assoc, sym, ◌∙◌, subst, eq-eqb, ne_eqb, ltb-true, ltb-false, leb-true, leb-false, length-append, length-take, length-set, drop_of_length-le, drop-cons, drop-drop, length-take-le, take_all, take-suc-set}
+use Rattle.std.proofs.Math.Path.{ap}
+use Rattle.std.proofs.Math.Numerals.{add-one}
+use native.Mathlib.Omega.{arith}
+use Rattle.std.proofs.Math.ListN.{length-drop}
+use Rattle.std.proofs.lemmas.List.{length-replicate, take-append-le}
+use Rattle.std.proofs.lemmas.List.Edits.{sets, sets-eq}
+use Rattle.std.proofs.Math.Seq.{drop-append_seam, take-append-add, take-append_seam, take-nil}
+use Rattle.laws.specs.Pick.{if◌then◌else◌}
+use Rattle.laws.specs.Cases.{pick_holds}
+use Rattle.script.specs.Grammar.{line_room, line_of}
+use Rattle.script.proofs.Laws.Grammar.{first_bytes_lem}
+use Rattle.runner.specs.declared.lines.Start.{Start}
+use Rattle.runner.specs.Lines.{first_lf, line_end, no_line, with_byte, lengthened, kept_of, kept_bytes}
+
+-- ---- the end of a line
+first_lf_in : (l : List ℕ) → first_lf l ≤ length l
+first_lf_in [] = omega arith
+first_lf_in (b ∷ l) = pick_holds (λ (n : ℕ). n ≤ length (b ∷ l)) (eqb b 10) (λ _. omega arith) (λ _. let h = first_lf_in l in omega (arith, h))
+
+module _ (block : List ℕ) (from : ℕ) where
+  pub end_after : from ≤ line_end block from
+  unfolding line_end
+  end_after = omega arith
+
+  pub end_in : from ≤ length block → line_end block from ≤ length block
+  unfolding line_end
+  end_in h = let k = first_lf_in (drop from block) in let n = length-drop from block in omega (arith, h, k, n)
+
+  pub end_last : length block ≤ from → line_end block from ≡ from
+  unfolding line_end
+  end_last h = let e : first_lf (drop from block) ≡ 0 = ap first_lf (drop_of_length-le block h) in omega (arith, e)
+
+-- a place of the block in a line that starts at another
+module _ (block : List ℕ) (from at : ℕ) (inside : at < length block) (same : line_end block from ≡ line_end block at) where
+  -- an LF ends the line
+  pub ends_here : get_or block at 0 ≡ 10 → at ≡ line_end block from
+  unfolding line_end if◌then◌else◌
+  ends_here t =
+      let e : first_lf (drop at block) ≡ 0 = ap first_lf (drop-cons block at 0 inside) ∙ rw (eq-eqb _ _ t) in
+      omega (arith, e, same)
+
+  -- after any other byte it goes on
+  pub goes_on : (get_or block at 0 ≡ 10 → ⊥) → (next : ℕ) → next ≡ at + 1 → line_end block from ≡ line_end block next
+  unfolding line_end if◌then◌else◌
+  goes_on t next e =
+      let n = add-one at in
+      let k : first_lf (drop at block) ≡ first_lf (drop next block) + 1 = ap first_lf (drop-cons block at 0 inside) ∙ rw (ne_eqb _ _ t, e, n) in
+      omega (arith, k, e, same)
+
+-- ---- bytes that are put somewhere, and those that follow them
+behind_put : (k l : List ℕ) (a : ℕ) → a + length k ≤ length l → drop a (sets l a k) ≡ k ++ drop (a + length k) l
+behind_put k l a h =
+    let front : length (take a l) ≡ a = length-take-le a l (omega (arith, h)) in
+    let rest = k ++ drop (a + length k) l in
+    ap (drop a) (sets-eq k l a h ∙ append_assoc (take a l) k (drop (a + length k) l))
+    ∙ ap (λ (x : ℕ). drop x (take a l ++ rest)) (sym front) ∙ drop-append_seam (take a l) rest
+
+-- n bytes right before place `line_room`
+pub put_before : (k block : List ℕ) (n till : ℕ) → length k ≡ n → n ≤ line_room → line_room ≤ till → till ≤ length block
+    → take (till - (line_room - n)) (drop (line_room - n) (sets block (line_room - n) k)) ≡ k ++ take (till - line_room) (drop line_room block)
+put_before k block n till e h i j =
+    let a = line_room - n in
+    let seam : a + length k ≡ line_room = omega (arith, e, h) in
+    let behind : drop a (sets block a k) ≡ k ++ drop line_room block =
+    behind_put k block a (omega (arith, seam, i, j)) ∙ ap (λ (x : ℕ). k ++ drop x block) seam in
+    let size : till - a ≡ length k + (till - line_room) = omega (arith, e, h, i) in
+    ap (take (till - a)) behind ∙ ap (λ (x : ℕ). take x (k ++ drop line_room block)) size ∙ take-append-add k (drop line_room block) (till - line_room)
+
+-- and those from there on stay
+pub put_stays : (k block : List ℕ) (n : ℕ) → length k ≡ n → n ≤ line_room → line_room ≤ length block → drop line_room (sets block (line_room - n) k) ≡ drop line_room block
+put_stays k block n e h i =
+    let a = line_room - n in
+    let seam : a + length k ≡ line_room = omega (arith, e, h) in
+    let t : a + n ≡ line_room = omega (arith, h) in
+    let behind : drop a (sets block a k) ≡ k ++ drop line_room block =
+    behind_put k block a (omega (arith, seam, i)) ∙ ap (λ (x : ℕ). k ++ drop x block) seam in
+    ap (λ (x : ℕ). drop x (sets block a k)) (sym t)
+    ∙ sym (drop-drop n a (sets block a k))
+    ∙ ap (drop n) behind
+    ∙ ap (λ (x : ℕ). drop x (k ++ drop line_room block)) (sym e)
+    ∙ drop-append_seam k (drop line_room block)
+
+-- one byte there
+pub put_one : (block : List ℕ) (x : ℕ) → line_room + 1 ≤ length block → take 1 (drop line_room (sets block line_room (x ∷ []))) ≡ x ∷ []
+put_one block x h = ap (take 1) (behind_put (x ∷ []) block line_room h) ∙ take-append_seam (x ∷ []) (drop (line_room + 1) block)
+
+-- ---- what is kept of the bytes l: the first `line_room`
+record Keeps (s : Start) (l : List ℕ) : Type 0 where
+  count : s.len ≡ length (take line_room l)
+  room : length s.bytes ≡ line_room
+  bytes : take s.len s.bytes ≡ take line_room l
+
+keeps_none : Keeps no_line []
+keeps_none = record { count = ap length (sym (take-nil line_room)); room = length-replicate {A = ℕ} line_room 0; bytes = sym (take-nil line_room) }
+
+module _ (s : Start) (l : List ℕ) (b : ℕ) (k : Keeps s l) where
+  -- a byte that is kept
+  kept_byte : s.len < line_room → Keeps (record { bytes = set s.bytes s.len b; len = s.len + 1 }) (l ++ (b ∷ []))
+  kept_byte h =
+      let n = length-take line_room l in
+      let q : length l < line_room = omega (arith, k.count, n, h) in
+      let whole : take line_room l ≡ l = take_all line_room l (omega arith) in
+      let size : length (l ++ (b ∷ [])) ≡ length l + 1 = length-append l (b ∷ []) in
+      let more : take line_room (l ++ (b ∷ [])) ≡ l ++ (b ∷ []) = take_all line_room (l ++ (b ∷ [])) (omega (arith, size, q)) in
+      let at : s.len ≡ length l = k.count ∙ ap length whole in
+      let inside : s.len < length s.bytes = omega (arith, k.room, h) in
+      record {
+        count = omega (arith, at, size, ap length more);
+        room = length-set s.bytes s.len b ∙ k.room;
+        bytes =
+            ap (λ (n : ℕ). take n (set s.bytes s.len b)) (add-one s.len)
+            ∙ take-suc-set s.bytes s.len b inside
+            ∙ ap (λ (t : List ℕ). t ++ (b ∷ [])) (k.bytes ∙ whole)
+            ∙ sym more;
+      }
+
+  -- a byte past those
+  past_byte : line_room ≤ s.len → Keeps s (l ++ (b ∷ []))
+  past_byte h =
+      let n = length-take line_room l in
+      let q : line_room ≤ length l = omega (arith, k.count, n, h) in
+      let same : take line_room (l ++ (b ∷ [])) ≡ take line_room l = take-append-le line_room l (b ∷ []) q in
+      record { count = k.count ∙ ap length (sym same); room = k.room; bytes = k.bytes ∙ sym same }
+
+  with_byte_lem : Keeps (with_byte s b) (l ++ (b ∷ []))
+  unfolding with_byte
+  with_byte_lem = pick_holds (λ (t : Start). Keeps t (l ++ (b ∷ []))) (ltb s.len line_room) (λ t. kept_byte (ltb-true _ _ t)) (λ t. past_byte (ltb-false _ _ t))
+
+keeps_more : (s : Start) (l rest : List ℕ) → Keeps s l → Keeps (lengthened s rest) (l ++ rest)
+keeps_more s l [] k = subst (Keeps s) (sym (append-nil l)) k
+keeps_more s l (b ∷ rest) k = subst (Keeps (lengthened s (b ∷ rest))) (append_assoc l (b ∷ []) rest) (keeps_more (with_byte s b) (l ++ (b ∷ [])) rest (with_byte_lem s l b k))
+
+pub kept_few : (n : ℕ) → n ≤ line_room → kept_of n ≡ n
+unfolding kept_of
+kept_few n h = pick_holds (λ (x : ℕ). x ≡ n) (ltb n line_room) (λ _. refl) (λ t. let g = ltb-false n line_room t in omega arith)
+
+-- of a line's first bytes and what follows, the first are those of the line
+first_and : (a b : List ℕ) (w : Bool) → leb line_room (length a) ≡ w → take line_room (take line_room a ++ b) ≡ take line_room (a ++ b)
+first_and a b true e =
+    let h = leb-true line_room (length a) e in
+    let n : length (take line_room a) ≡ line_room = length-take line_room a ∙ omega arith in
+    take-append-le line_room (take line_room a) b (omega (arith, n)) ∙ take_all line_room (take line_room a) (omega (arith, n)) ∙ sym (take-append-le line_room a b h)
+first_and a b false e = let h = leb-false line_room (length a) e in ap (λ (x : List ℕ). take line_room (x ++ b)) (take_all line_room a (omega arith))
+
+-- of a line so many bytes are kept as are there, `line_room` at most, and they are its first
+pub kept_first : (a : List ℕ) → kept_bytes (lengthened no_line a) ≡ take line_room a
+kept_first a =
+    let s = lengthened no_line a in
+    let k = keeps_more no_line [] a keeps_none in
+    let n = length-take line_room a in
+    let e : kept_of s.len ≡ s.len = kept_few s.len (omega (arith, k.count, n)) in
+    ap (λ (j : ℕ). take j s.bytes) e ∙ k.bytes
+
+-- A LINE IN TWO PIECES: the first `line_room` bytes of the first, with the second behind it, are read as the whole line
+pub read_in_pieces : (a b : List ℕ) → line_of (take line_room a ++ b) ≡ line_of (a ++ b)
+read_in_pieces a b =
+    sym (first_bytes_lem (take line_room a ++ b))
+    ∙ ap line_of (first_and a b (leb line_room (length a)) refl)
+    ∙ first_bytes_lem (a ++ b)
+
+-- two lines with the same first bytes have them with one more
+pub first_more : (k l : List ℕ) (b : ℕ) → take line_room k ≡ take line_room l → take line_room (k ++ (b ∷ [])) ≡ take line_room (l ++ (b ∷ []))
+first_more k l b h =
+    sym (first_and k (b ∷ []) (leb line_room (length k)) refl)
+    ∙ ap (λ (t : List ℕ). take line_room (t ++ (b ∷ []))) h
+    ∙ first_and l (b ∷ []) (leb line_room (length l)) refl

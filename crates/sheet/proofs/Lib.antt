@@ -1,0 +1,4 @@
+pub mod Premise
+pub mod Second
+pub mod Sheet
+pub mod Tight
