@@ -91,6 +91,9 @@ def renaming():
     for n in own:
         if "-" not in n:
             continue
+        if any(k == "def" for k, _ in own[n]):
+            new[n] = n.replace("-", "_")
+            continue
         spec = re.match(r"^(.*)-spec$", n)
         new[n] = (spec.group(1).replace("-", "_") + "_spec") if spec and any("/proofs/" in p for _, p in own[n]) else joined(n, names)
     # a lemma that would have its function's name gets `_lem`
@@ -130,9 +133,10 @@ def turned(text, new, skip):
     aliases = set(re.findall(r"^use [^\n{]* as ([a-z]\w*)$", text, re.M)) - {"tie", "goal"}
     for line in text.split("\n"):
         text_now = line
-        # in a comment a word with a dash may be plain English
+        # in a comment a word with a dash may be plain English, but in backquotes it is a name
         plain = line.lstrip().startswith("--")
-        out.append(TOKEN.sub(lambda m: m.group(0) if plain and "-" in m.group(0) else one(m), line))
+        turn = TOKEN.sub(lambda m: m.group(0) if plain and "-" in m.group(0) else one(m), line)
+        out.append(re.sub("`([^`]*)`", lambda m: "`" + TOKEN.sub(lambda t: new.get(t.group(0), t.group(0)), m.group(1)) + "`", turn) if plain else turn)
     return "\n".join(out)
 
 

@@ -1,4 +1,4 @@
--- What the program reads and what it hands to `write`, piece by piece; put together they are a script and its output (`talk-output`, proofs/Laws/Talk.antt).
+-- What the program reads and what it hands to `write`, piece by piece; put together they are a script and its output (`talk_output`, proofs/Laws/Talk.antt).
 use Rattle.std.specs.Prelude.{ℕ, ◌≤◌, Bool, false, List, [], ◌++◌, ◌≡◌, ltb, length, take}
 use Rattle.part.specs.Facts.{Whole}
 use Rattle.answers.specs.Answer.{header}

@@ -1,4 +1,4 @@
--- Document 02, request Three: what a channel is like to which nobody ever answered. A UFm channel is so from a reset on (`served-keeps`, proofs/Laws/Straps.antt).
+-- Document 02, request Three: what a channel is like to which nobody ever answered. A UFm channel is so from a reset on (`served_keeps`, proofs/Laws/Straps.antt).
 use Rattle.std.specs.Prelude.{ℕ, ◌<◌, false, List, ◌≡◌, get_or}
 use Rattle.rules.specs.declared.state.Flags.{Flags}
 use Rattle.channel.specs.declared.state.Channel.{Channel}

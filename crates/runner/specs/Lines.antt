@@ -21,7 +21,7 @@ line_end block from = from + first_lf (drop from block)
 abbrev pub no_line : Start
 no_line = record { bytes = replicate line_room 0; len = 0 }
 
--- one more byte, while there are fewer than `line_room`: the first `line_room` are read as the whole line is (`read-in-pieces`, proofs/Laws/Lines.antt)
+-- one more byte, while there are fewer than `line_room`: the first `line_room` are read as the whole line is (`read_in_pieces`, proofs/Laws/Lines.antt)
 unfoldable pub with_byte : Start → ℕ → Start
 with_byte s b = if ltb s.len line_room then record { bytes = set s.bytes s.len b; len = s.len + 1 } else s
 

@@ -61,7 +61,7 @@ reset = record { state = at_reset Pca9663; step = 0 }
 unfoldable pub output_of : List ℕ → List ℕ
 output_of input = header ++ replies_to reset (lines_of input)
 
--- ---- bytes that come in pieces: where a script stands between two of them. Cut anywhere, the input comes to the same (`output-in-two`, proofs/Laws/Text.antt)
+-- ---- bytes that come in pieces: where a script stands between two of them. Cut anywhere, the input comes to the same (`output_in_two`, proofs/Laws/Text.antt)
 pub record Sitting : Type 0 where
   pub desk : Desk
   pub line : List ℕ

@@ -12,7 +12,7 @@ use Rattle.script.specs.declared.reading.Line.{Line}
 use Rattle.script.specs.declared.reading.Line.TheVariants.{Readable, Unreadable}
 
 -- every form below is shorter: the longest, `E c BYTE bb`, has 11 bytes, and there is room for a longer one. So a line of so many bytes or more can't be
--- read, and its first bytes, so many, are read as it is (`first-bytes`, proofs/Laws/Grammar.antt). It is shut: laws go by its name
+-- read, and its first bytes, so many, are read as it is (`first_bytes_lem`, proofs/Laws/Grammar.antt). It is shut: laws go by its name
 unfoldable pub line_room : ℕ
 line_room = 16
 

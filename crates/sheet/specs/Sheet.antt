@@ -69,17 +69,17 @@ row8 =
     ∷ [])
 
 -- writes to 40h and 42h, one byte each
-abbrev pub two-writes : List Entry
-two-writes = writes 0xC4 2 ∷ writes 0xC4 1 ∷ writes 0xC4 1 ∷ writes 0xC3 0x40 ∷ writes 0xC3 0x42 ∷ acts (Write 0xC0 0x40) (S 0x40) ∷ []
+abbrev pub two_writes : List Entry
+two_writes = writes 0xC4 2 ∷ writes 0xC4 1 ∷ writes 0xC4 1 ∷ writes 0xC3 0x40 ∷ writes 0xC3 0x42 ∷ acts (Write 0xC0 0x40) (S 0x40) ∷ []
 
 -- 9. Writes to 40h and 42h, NACK on the first: P, CHSTATUS 20h. With INTMSK 20h: R42.
 abbrev pub row9 : Row
 row9 =
     from_reset
-    (two-writes
+    (two_writes
     ++ (acts (Wire 0 (Ninth High)) P ∷ does (Wire 0 Stop) ∷ reads 0xC1 0x20
     ∷ does (Reset Pca9663) ∷ writes 0xC2 0x20
-    ∷ two-writes
+    ∷ two_writes
     ++ (acts (Wire 0 (Ninth High)) (R 0x42) ∷ [])))
 
 -- 10. Seventeen lengths of 255: TRANSEL 17 points at 4,335; TRANOFS 16 at 4,351; TRANOFS 17 no. 5.

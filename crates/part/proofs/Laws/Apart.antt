@@ -30,7 +30,7 @@ module _ (p : Part) (m : List ℕ) (c : ℕ) (op : Op) where
     mask = refl;
   }
 
--- A CHANNEL'S STEP LEAVES THE OTHERS as they are after what it forgets of their keys (`other-left`, Keys.antt)
+-- A CHANNEL'S STEP LEAVES THE OTHERS as they are after what it forgets of their keys (`other_left`, Keys.antt)
 pub leaves_others : (p : Part) (m : List ℕ) (c : ℕ) (op : Op) (s : Step) → target_of s ≡ One op c → Whole p m
     → Others c (forgetting (One op c) p) m (part_step p m s).part (part_bytes p m s)
 unfolding part_served part_stored target_served target_stored
