@@ -91,7 +91,8 @@ def renaming():
     for n in own:
         if "-" not in n:
             continue
-        if any(k == "def" for k, _ in own[n]):
+        # a definition, and the statement of a public function's promise, which has the function's name
+        if any(k == "def" for k, _ in own[n]) or n.endswith("-once"):
             new[n] = n.replace("-", "_")
             continue
         spec = re.match(r"^(.*)-spec$", n)

@@ -1,7 +1,6 @@
 -- `heads::Heads::forget_but` meets its contract: the three heads, each with what is left of its key.
 use mathlib.Core.Path.{◌≡◌}
-use lib.ListN.{length, length-map}
-use borrow.Author.Rules.{rules}
+use lib.ListN.{length}
 use Rattle.heads.specs.Heads.{common_left}
 use Rattle.heads.proofs.Laws.Keys.{three_left}
 use Rattle.heads.proofs.Heads.forget_but.Goals as goal

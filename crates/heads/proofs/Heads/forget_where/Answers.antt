@@ -1,5 +1,4 @@
 -- `heads::Heads::forget_where` meets its contract.
-use borrow.Author.Rules.{rules}
 use Rattle.laws.specs.Cases.{cases}
 use Rattle.heads.proofs.Heads.forget_where.Goals as goal
 

@@ -1,5 +1,4 @@
 -- `heads::Heads::keyed` meets its contract.
-use borrow.Author.Rules.{rules}
 use Rattle.laws.specs.Cases.{cases}
 use Rattle.heads.specs.Heads.{keyed_of}
 use Rattle.heads.proofs.Heads.keyed.Goals as goal

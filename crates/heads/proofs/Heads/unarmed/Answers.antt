@@ -1,5 +1,4 @@
 -- `heads::Heads::unarmed` meets its contract.
-use borrow.Author.Rules.{rules}
 use Rattle.laws.specs.Cases.{cases}
 use Rattle.heads.specs.Heads.{unarmed_of}
 use Rattle.heads.proofs.Heads.unarmed.Goals as goal

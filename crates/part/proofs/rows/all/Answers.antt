@@ -1,6 +1,5 @@
 -- `part::rows::all` meets its contract: an arm for each step of the whole part.
 use mathlib.Core.Path.{refl}
-use borrow.Author.Rules.{rules}
 use Rattle.part.specs.declared.state.Part.{Part}
 use Rattle.part.specs.declared.state.PartStepped.{PartStepped}
 use Rattle.part.specs.Registers.{ctrl_read}

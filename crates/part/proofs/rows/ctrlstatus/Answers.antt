@@ -1,5 +1,4 @@
 -- `part::rows::ctrlstatus` meets its contract: bit by bit.
-use borrow.Author.Rules.{rules}
 use Rattle.part.specs.Registers.{ctrlstatus_of}
 use Rattle.part.proofs.rows.ctrlstatus.Goals as goal
 

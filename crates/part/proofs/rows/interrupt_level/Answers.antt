@@ -1,5 +1,4 @@
 -- `part::rows::interrupt_level` meets its contract.
-use borrow.Author.Rules.{rules}
 use Rattle.part.specs.Registers.{interrupt_of}
 use Rattle.part.proofs.rows.interrupt_level.Goals as goal
 

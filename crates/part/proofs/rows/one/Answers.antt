@@ -1,11 +1,5 @@
 -- `part::rows::one` meets its contract: what the channel's own step gives, put into row c and into its window.
-use Prim.Native.Nat.{◌<◌, ◌≤◌, ◌+◌, ◌*◌}
-use lib.ListN.{length}
-use native.Mathlib.Nat.{le-add_right}
-use native.Mathlib.Omega.{arith}
-use borrow.Author.Rules.{rules}
-use Rattle.rules.specs.Numbers.{buffer_size}
-use Rattle.part.proofs.Laws.Rows.{one_accepted, one_left}
+use Rattle.part.proofs.Laws.Rows.{one_left}
 use Rattle.part.specs.Rows.{rows_in}
 use Rattle.part.proofs.rows.one.Goals as goal
 

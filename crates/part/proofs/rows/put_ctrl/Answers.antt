@@ -1,7 +1,6 @@
 -- `part::rows::put_ctrl` meets its contract: a reset, or a write with the key that it leaves.
 use mathlib.Core.Bool.{false, true}
 use mathlib.Core.Path.{◌∙◌, ◌≡◌, refl, sym}
-use borrow.Author.Rules.{rules}
 use Rattle.laws.specs.Pick.{if◌then◌else◌}
 use Rattle.rules.specs.Access.{resets_of, key_after}
 use Rattle.part.specs.declared.state.Part.{Part}

@@ -1,6 +1,5 @@
 -- `part::rows::read_ctrl` meets its contract.
 use Rattle.part.specs.Registers.{ctrl_read}
-use borrow.Author.Rules.{rules}
 use Rattle.part.proofs.rows.read_ctrl.Goals as goal
 
 pub returns-in-Ctrlintmsk : goal.returns-in-Ctrlintmsk

@@ -1,5 +1,4 @@
 -- `part::rows::read_ctrlstatus` meets its contract.
-use borrow.Author.Rules.{rules}
 use Rattle.part.specs.Registers.{ctrl_read}
 use Rattle.part.proofs.rows.read_ctrlstatus.Goals as goal
 

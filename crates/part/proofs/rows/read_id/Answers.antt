@@ -1,5 +1,4 @@
 -- `part::rows::read_id` meets its contract.
-use borrow.Author.Rules.{rules}
 use Rattle.part.specs.Registers.{ctrl_read}
 use Rattle.part.proofs.rows.read_id.Goals as goal
 

@@ -2,7 +2,6 @@
 use Prim.Native.Nat.{ℕ}
 use mathlib.Core.Path.{◌∙◌, ap}
 use lib.ListN.{replicate}
-use borrow.Author.Rules.{rules}
 use Rattle.part.specs.declared.state.PartStepped.{PartStepped}
 use Rattle.part.specs.Rows.{rows_of}
 use Rattle.part.specs.State.{fresh_part, wiped}

@@ -1,6 +1,5 @@
 -- `part::rows::trigger` meets its contract: where no channel has TE 1, all is left.
 use mathlib.Core.Path.{sym, ◌∙◌}
-use borrow.Author.Rules.{rules}
 use Rattle.part.proofs.Laws.Rows.{tells_gives, unarmed_unmoved}
 use Rattle.rules.specs.Numbers.{done}
 use Rattle.part.specs.declared.state.Part.{Part}

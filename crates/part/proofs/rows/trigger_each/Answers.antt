@@ -1,6 +1,5 @@
 -- `part::rows::trigger_each` meets its contract: a channel's row is not touched by the others' edges.
 use native.Mathlib.Omega.{arith}
-use borrow.Author.Rules.{rules}
 use Rattle.part.specs.Rows.{rows_in, gathered}
 use Rattle.part.proofs.Laws.Range.{chan-in_range}
 use Rattle.part.proofs.Laws.Rows.{edges_give, second_in_range, third_in_range}

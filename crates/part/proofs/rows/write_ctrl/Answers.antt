@@ -1,6 +1,5 @@
 -- `part::rows::write_ctrl` meets its contract.
 use Rattle.part.specs.Registers.{ctrl_written}
-use borrow.Author.Rules.{rules}
 use Rattle.part.proofs.rows.write_ctrl.Goals as goal
 
 pub returns-in-Ctrlstatus : goal.returns-in-Ctrlstatus

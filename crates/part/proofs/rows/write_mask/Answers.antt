@@ -1,5 +1,4 @@
 -- `part::rows::write_mask` meets its contract.
-use borrow.Author.Rules.{rules}
 use Rattle.part.specs.Registers.{ctrl_written}
 use Rattle.part.proofs.rows.write_mask.Goals as goal
 

@@ -1,7 +1,6 @@
 -- `part::state::Part::accepts_len` meets its contract.
 use Rattle.laws.specs.Cases.{cases, pick_true}
 use Rattle.part.specs.Step.{accepts}
-use borrow.Author.Rules.{rules}
 use borrow.Author.Tests.{eq-eqb}
 use Rattle.part.proofs.state.Part.accepts_len.Goals as goal
 

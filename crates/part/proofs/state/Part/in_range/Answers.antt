@@ -1,7 +1,6 @@
 -- `part::state::Part::in_range` meets its contract.
 use Rattle.laws.specs.Cases.{cases}
 use Rattle.part.specs.Step.{part_in}
-use borrow.Author.Rules.{rules}
 use Rattle.part.proofs.state.Part.in_range.Goals as goal
 
 pub returns-then-mask_in : goal.returns-then-mask_in

@@ -1,5 +1,4 @@
 -- `part::state::Part::interrupt` meets its contract: the level of the heads is that of the part, whatever its tables.
-use borrow.Author.Rules.{rules}
 use Rattle.part.specs.Rows.{rows_of}
 use Rattle.part.proofs.Laws.Rows.{gathered-apart}
 use Rattle.part.proofs.state.Part.interrupt.Goals as goal

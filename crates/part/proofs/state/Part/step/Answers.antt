@@ -2,7 +2,6 @@
 use Rattle.laws.specs.Cases.{pick-false}
 use Rattle.part.proofs.Laws.Range.{accepts-whole}
 use Rattle.part.specs.Step.{part_bytes, part_step}
-use borrow.Author.Rules.{rules}
 use borrow.Author.Tests.{not-false, not-true}
 use mathlib.Core.Path.{◌∙◌, refl, sym}
 use Rattle.part.proofs.state.Part.step.Goals as goal
