@@ -7,7 +7,7 @@ use native.Mathlib.Numerals.{add-one}
 use native.Mathlib.Omega.{arith}
 use borrow.Author.Rules.{rules}
 use lib.ListN.{length, get_or, take, drop, replicate, length-drop, drop_of_length-le}
-use lib.Seq.{take_at, take_all, take-length, length-take-le, drop-cons}
+use lib.Seq.{take_at, take_all, length-take-le, drop-cons}
 use Rattle.laws.specs.Cases.{pick_true, pick-false}
 use Rattle.files.specs.declared.format.Fault.TheVariants.{Sound, Forged}
 use Rattle.files.specs.File.{header_of, total, same_as, headed, over}

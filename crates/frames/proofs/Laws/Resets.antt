@@ -16,7 +16,6 @@ use Rattle.steps.specs.declared.map.Wide.TheVariants.{CtrlWrite, CtrlRead, AllTr
 use Rattle.steps.specs.declared.answer.PartAnswer.{PartAnswer}
 use Rattle.channel.specs.declared.state.Channel.{Channel}
 use Rattle.channel.specs.Access.{put_of}
-use Rattle.channel.specs.State.{fresh}
 use Rattle.channel.specs.Step.{write_at, served_by}
 use Rattle.part.specs.declared.state.Part.{Part}
 use Rattle.part.specs.Registers.{ctrl_put}

@@ -1,7 +1,6 @@
 -- `letters::digit` meets its contract.
 use Rattle.laws.specs.Cases.{cases}
 use Rattle.letters.specs.Letters.{digit_of}
-use borrow.Author.Rules.{rules}
 use Rattle.letters.proofs.digit.Goals as goal
 
 pub returns-then-d-lt10 : goal.returns-then-d-lt10

@@ -1,7 +1,6 @@
 -- `files::format::body_fault` meets its contract.
 use Rattle.files.specs.File.{body_fault}
 use Rattle.laws.specs.Cases.{cases}
-use borrow.Author.Rules.{rules}
 use Rattle.files.proofs.format.body_fault.Goals as goal
 
 pub returns-then-s-gt-BUFFER : goal.returns-then-s-gt-BUFFER

@@ -2,7 +2,6 @@
 use Rattle.files.proofs.Laws.Blocks.{fault_behind}
 use Rattle.files.specs.File.{fault_of}
 use Rattle.laws.specs.Cases.{cases}
-use borrow.Author.Rules.{rules}
 use Rattle.files.proofs.format.fault_of.Goals as goal
 
 pub returns-then-file-lt-HEADER : goal.returns-then-file-lt-HEADER

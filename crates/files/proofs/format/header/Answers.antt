@@ -1,6 +1,5 @@
 -- `files::format::header` meets its contract.
 use Rattle.files.specs.File.{header_of}
-use borrow.Author.Rules.{rules}
 use Rattle.files.proofs.format.header.Goals as goal
 
 pub returns : goal.returns

@@ -1,6 +1,5 @@
 -- `files::format::sum` meets its contract: the lengths so far, and those to come.
 use Prim.Native.Nat.{◌≤◌, ◌+◌, ◌-◌, ◌*◌}
-use Rattle.files.proofs.Laws.Moves.{sums}
 use Rattle.files.specs.File.{total}
 use lib.ListN.{length, drop}
 use mathlib.Core.Path.{◌≡◌}

@@ -1,6 +1,5 @@
 -- `files::single::fill_from` meets its contract: the data block.
 use Rattle.files.proofs.Laws.Blocks.{bytes_loaded}
-use borrow.Author.Rules.{rules}
 use Rattle.files.proofs.single.fill_from.Goals as goal
 
 pub returns : goal.returns

@@ -1,6 +1,5 @@
 -- `files::single::idle_number` meets its contract.
 use Rattle.laws.specs.Cases.{cases}
-use borrow.Author.Rules.{rules}
 use Rattle.files.proofs.single.idle_number.Goals as goal
 
 pub returns-then-active : goal.returns-then-active

@@ -1,7 +1,6 @@
 -- `files::single::load` meets its contract: no. 9, or the file read.
 use Rattle.files.specs.Deeds.{load_work}
 use Rattle.works.proofs.Laws.Calls.{alone_accepts, alone_refused, alone_took}
-use borrow.Author.Rules.{rules}
 use Rattle.files.proofs.single.load.Goals as goal
 
 pub returns-then-n-ne0 : goal.returns-then-n-ne0

@@ -1,6 +1,5 @@
 -- `files::single::room_number` meets its contract.
 use Rattle.files.proofs.Laws.Blocks.{room_short, room_done, room_never}
-use borrow.Author.Rules.{rules}
 use Rattle.files.proofs.single.room_number.Goals as goal
 
 pub returns-then-room-n : goal.returns-then-room-n

@@ -5,7 +5,6 @@ use Rattle.files.specs.Deeds.{save_work}
 use Rattle.works.specs.Idle.{numbered, own_by}
 use Rattle.works.proofs.Laws.Calls.{alone_accepts, alone_kept, alone_gave}
 use Rattle.works.specs.Work.{Own}
-use borrow.Author.Rules.{rules}
 use mathlib.Core.Path.{sym, ◌∙◌, ap}
 use Rattle.files.proofs.single.save.Goals as goal
 

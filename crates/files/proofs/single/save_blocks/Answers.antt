@@ -1,8 +1,6 @@
 -- `files::single::save_blocks` meets its contract: the header, and the blocks behind it.
-use Rattle.files.proofs.Laws.Blocks.{lengths_count, header_count, file_put}
+use Rattle.files.proofs.Laws.Blocks.{file_put}
 use Rattle.files.proofs.Laws.Moves.{take_count}
-use lib.ListN.{length, take}
-use mathlib.Core.Path.{◌≡◌}
 use native.Mathlib.Omega.{arith}
 use Rattle.files.proofs.single.save_blocks.Goals as goal
 

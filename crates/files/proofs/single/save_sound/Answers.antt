@@ -2,12 +2,8 @@
 use Rattle.channel.proofs.Laws.Range.{range_count}
 use Rattle.files.proofs.Laws.Calls.{save_room, save_refused, save_done}
 use Rattle.files.specs.Deeds.{save_deed}
-use Rattle.works.specs.Idle.{own_by, deed_number}
+use Rattle.works.specs.Idle.{own_by}
 use Rattle.works.proofs.Laws.Idle.{deed_is}
-use Rattle.works.specs.Work.{Own}
-use Prim.Native.Nat.{ℕ}
-use lib.ListN.{get_or}
-use mathlib.Core.Path.{◌≡◌}
 use Rattle.files.proofs.single.save_sound.Goals as goal
 
 pub room_number-requires : goal.room_number-requires

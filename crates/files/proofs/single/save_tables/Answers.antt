@@ -1,5 +1,5 @@
 -- `files::single::save_tables` meets its contract: of the first count transactions.
-use Rattle.files.proofs.Laws.Calls.{room_open, tables-put}
+use Rattle.files.proofs.Laws.Calls.{room_open}
 use borrow.Author.Rules.{rules}
 use Rattle.files.proofs.single.save_tables.Goals as goal
 

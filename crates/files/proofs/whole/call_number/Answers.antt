@@ -1,7 +1,6 @@
 -- `files::whole::call_number` meets its contract.
 use Rattle.laws.specs.Cases.{cases}
 use Rattle.works.specs.Facts.{call_number}
-use borrow.Author.Rules.{rules}
 use Rattle.files.proofs.whole.call_number.Goals as goal
 
 pub returns-then-c-gt2 : goal.returns-then-c-gt2

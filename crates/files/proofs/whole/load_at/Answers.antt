@@ -1,12 +1,8 @@
 -- `files::whole::load_at` meets its contract: in the channel's window.
-use Prim.Native.Nat.{◌+◌, ◌*◌, ◌≤◌}
 use Rattle.files.proofs.Laws.Calls.{took_in}
 use Rattle.files.specs.Deeds.{load_work}
 use Rattle.part.specs.State.{chan}
-use Rattle.rules.specs.Numbers.{buffer_size}
 use Rattle.works.proofs.Laws.Calls.{window-ends, window-lent, window_accepted, call_took}
-use borrow.Author.Rules.{rules}
-use lib.ListN.{length}
 use mathlib.Core.Path.{refl}
 use Rattle.files.proofs.whole.load_at.Goals as goal
 

@@ -1,7 +1,6 @@
 -- `files::whole::load_into` meets its contract: no. 9, no. 1, or the channel's.
 use Rattle.files.specs.Deeds.{load_work}
 use Rattle.works.proofs.Laws.Calls.{call_refused, call_open}
-use borrow.Author.Rules.{rules}
 use Rattle.files.proofs.whole.load_into.Goals as goal
 
 pub returns-then-n-ne0 : goal.returns-then-n-ne0

@@ -1,15 +1,11 @@
 -- `files::whole::save_at` meets its contract: in the channel's window.
-use Prim.Native.Nat.{◌+◌, ◌*◌, ◌≤◌}
 use Rattle.files.proofs.Laws.Calls.{saved_in, save_leaves}
 use Rattle.files.specs.Deeds.{save_work}
 use Rattle.files.proofs.Laws.Stays.{save_calm}
 use Rattle.part.specs.State.{chan}
-use Rattle.rules.specs.Numbers.{buffer_size}
 use Rattle.works.specs.Idle.{numbered, state_of}
 use Rattle.works.proofs.Laws.Calls.{window-ends, window-lent, window_accepted, call_left}
 use Rattle.works.specs.Work.{own_of}
-use borrow.Author.Rules.{rules}
-use lib.ListN.{length}
 use mathlib.Core.Path.{refl, sym, ap}
 use Rattle.files.proofs.whole.save_at.Goals as goal
 

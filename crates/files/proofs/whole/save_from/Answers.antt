@@ -1,7 +1,6 @@
 -- `files::whole::save_from` meets its contract: no. 9, no. 1, or the channel's.
 use Rattle.files.specs.Deeds.{save_work}
 use Rattle.works.proofs.Laws.Calls.{call_kept, call_open}
-use borrow.Author.Rules.{rules}
 use Rattle.files.proofs.whole.save_from.Goals as goal
 
 pub returns-then-n-ne0 : goal.returns-then-n-ne0

@@ -1,6 +1,5 @@
 -- `script::reading::in_form` meets its contract: from place i on, the line has the form where it has it from the start.
 use Prim.Native.Nat.{◌≤◌, ◌-◌}
-use Rattle.script.proofs.Laws.Reading.{fit}
 use Rattle.script.specs.Grammar.{in_form}
 use lib.ListN.{length, drop}
 use mathlib.Core.Path.{◌≡◌}

@@ -1,7 +1,6 @@
 -- `script::reading::read_clock` meets its contract.
 use Rattle.laws.specs.Cases.{cases}
 use Rattle.script.specs.Grammar.{clock_line}
-use borrow.Author.Rules.{rules}
 use Rattle.script.proofs.reading.read_clock.Goals as goal
 
 pub returns-then-in_form : goal.returns-then-in_form

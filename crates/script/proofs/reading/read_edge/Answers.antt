@@ -1,7 +1,6 @@
 -- `script::reading::read_edge` meets its contract.
 use Rattle.laws.specs.Cases.{cases}
 use Rattle.script.specs.Grammar.{edge_line}
-use borrow.Author.Rules.{rules}
 use Rattle.script.proofs.reading.read_edge.Goals as goal
 
 pub returns-then-in_form : goal.returns-then-in_form

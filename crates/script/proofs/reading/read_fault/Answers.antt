@@ -1,7 +1,6 @@
 -- `script::reading::read_fault` meets its contract.
 use Rattle.laws.specs.Cases.{cases}
 use Rattle.script.specs.Grammar.{fault_line}
-use borrow.Author.Rules.{rules}
 use Rattle.script.proofs.reading.read_fault.Goals as goal
 
 pub returns-then-in_form : goal.returns-then-in_form

@@ -1,7 +1,6 @@
 -- `script::reading::suits` meets its contract.
 use Rattle.laws.specs.Cases.{cases}
 use Rattle.script.specs.Grammar.{suiting}
-use borrow.Author.Rules.{rules}
 use Rattle.script.proofs.reading.suits.Goals as goal
 
 pub returns-then-letter-ge97 : goal.returns-then-letter-ge97
