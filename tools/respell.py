@@ -5,7 +5,7 @@ usage: tools/respell.py [--list]
 
 Run once, at the top, on what port.py wrote. A definition in camel case gets snake case (`partStep`: `part_step`). In a lemma's name a
 dash stays where it joins the names of two definitions (`length-window`); a plain word hangs on by `_` (`pick_false`). Types, modules
-and the names of Rust's side keep theirs. Writes specs/ and proofs/, and of src/ the clauses and the `ghost use` lines.
+and the names of Rust's side keep theirs. The choice by a test gets a name of its own, `when b then x else y`, since `if` is the library's. Writes specs/ and proofs/, and of src/ the clauses and the `ghost use` lines.
 --list writes nothing, and prints each name with its new one. Names that fall together are printed, and then nothing is written;
 --dry does that alone.
 """
@@ -141,6 +141,11 @@ def turned(text, new, skip):
     return "\n".join(out)
 
 
+def when(text):
+    """The choice by a test under its new name."""
+    return re.sub(r"(?<![\w.'\-◌])if(?=\s)", "when", text).replace("if◌then◌else◌", "when◌then◌else◌")
+
+
 def own_fields():
     found = set()
     for path in files("specs", "proofs"):
@@ -197,11 +202,12 @@ def main():
         skip = {n for n, where in others.items() if path in where}
         if path.endswith(".rt"):
             for a, b in sorted(clauses(text), reverse=True):
-                text = text[:a] + turned(text[a:b], new, skip) + text[b:]
+                text = text[:a] + when(turned(text[a:b], new, skip)) + text[b:]
             # a comment that cites a definition follows it
             text = re.sub(r"//.*$", lambda m: TOKEN.sub(lambda t: new[t.group(0)] if t.group(0) in new and "-" not in t.group(0) else t.group(0), m.group(0)), text, flags=re.M)
         else:
-            text = turned(text, new, skip)
+            code = re.compile(r"^(?!\s*--)(.*?)(?= -- |$)", re.M)
+            text = code.sub(lambda m: when(m.group(0)), turned(text, new, skip))
         if text != read(path):
             with open(path, "w", encoding="utf-8") as f:
                 f.write(text)

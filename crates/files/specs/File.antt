@@ -1,6 +1,6 @@
 -- Document 02, request Five: the sequence file. A header of 12 bytes and three blocks.
 use Rattle.std.specs.Prelude.{ℕ, ◌+◌, ◌*◌, ◌/◌, ◌%◌, ◌≤◌, Bool, true, false, List, [], ◌∷◌, ◌++◌, ◌≡◌, eqb, ltb, length, get_or, take, drop}
-use Rattle.laws.specs.Pick.{if◌then◌else◌}
+use Rattle.laws.specs.Pick.{when◌then◌else◌}
 use Rattle.rules.specs.Numbers.{buffer_size, done}
 use Rattle.files.specs.declared.format.Fault.{Fault}
 use Rattle.files.specs.declared.format.Fault.TheVariants.{Sound, NoHeader, Crowded, Short, Overfull, Longer, Forged}
@@ -75,25 +75,25 @@ abbrev pub same_as : List ℕ → List ℕ → Bool
 same_as [] [] = true
 same_as [] (y ∷ k) = false
 same_as (x ∷ l) [] = false
-same_as (x ∷ l) (y ∷ k) = if eqb x y then same_as l k else false
+same_as (x ∷ l) (y ∷ k) = when eqb x y then same_as l k else false
 
 -- the header is the one that its count and the summed lengths force
 unfoldable pub headed : List ℕ → ℕ → ℕ → Fault
-headed f n s = if same_as (take 12 f) (header_of n s) then Sound else Forged
+headed f n s = when same_as (take 12 f) (header_of n s) then Sound else Forged
 
 -- lengths that sum above 4,352 can't be loaded; the data are as many bytes as the lengths say, and no byte follows
 unfoldable pub body_fault : List ℕ → ℕ → ℕ → Fault
 body_fault f n s =
-    if ltb buffer_size s then Overfull else
-    if ltb (length f) (12 + 2 * n + s) then Short else
-    if ltb (12 + 2 * n + s) (length f) then Longer else headed f n s
+    when ltb buffer_size s then Overfull else
+    when ltb (length f) (12 + 2 * n + s) then Short else
+    when ltb (12 + 2 * n + s) (length f) then Longer else headed f n s
 
 -- what is wrong with a file, the first that applies
 unfoldable pub fault_of : List ℕ → Fault
 fault_of f =
-    if ltb (length f) 12 then NoHeader else
-    if ltb 64 (count_in f) then Crowded else
-    if ltb (length f) (12 + 2 * count_in f) then Short else body_fault f (count_in f) (total (lengths_in f))
+    when ltb (length f) 12 then NoHeader else
+    when ltb 64 (count_in f) then Crowded else
+    when ltb (length f) (12 + 2 * count_in f) then Short else body_fault f (count_in f) (total (lengths_in f))
 
 -- and the number that it gives a read
 abbrev pub fault_number : Fault → ℕ

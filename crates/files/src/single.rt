@@ -1,6 +1,6 @@
 // A file read into a single channel, and written from one: the record by value, and its 4,352 bytes.
 ghost use Rattle.std.specs.Prelude.{◌∷◌, ◌++◌, ◌≡◌, ◌+◌, ◌*◌, ◌≤◌, length, get_or, replicate, take, drop};
-ghost use Rattle.laws.specs.Pick.{if◌then◌else◌};
+ghost use Rattle.laws.specs.Pick.{when◌then◌else◌};
 ghost use Rattle.rules.specs.Numbers.{buffer_size, locked};
 ghost use Rattle.rules.specs.Registers.{active_of};
 ghost use Rattle.channel.specs.Facts.{Accepted};
@@ -27,7 +27,7 @@ fn own_number(c: Channel, len: usize) -> u8
 
 // No. 3 in every phase but Idle, or else this number.
 fn idle_number(p: Phase, own: u8) -> u8
-    ensures { result ≡ (if active_of p then locked else own) }
+    ensures { result ≡ (when active_of p then locked else own) }
 {
     if active(p) { LOCKED } else { own }
 }

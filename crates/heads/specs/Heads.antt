@@ -1,6 +1,6 @@
 -- The heads of the part's channels and what the part has beside its channels: what a channel's answer is to them.
 use Rattle.std.specs.Prelude.{ℕ, Bool, true, false, not, List, [], ◌∷◌, map, eqb, get_or, set}
-use Rattle.laws.specs.Pick.{if◌then◌else◌}
+use Rattle.laws.specs.Pick.{when◌then◌else◌}
 use Rattle.rules.specs.declared.parts.Device.{Device}
 use Rattle.rules.specs.declared.parts.Kind.TheVariants.{Fm}
 use Rattle.rules.specs.Numbers.{done}
@@ -44,8 +44,8 @@ device_at h = device_by (kind_of (head_at h 1))
 -- no channel has TE 1
 unfoldable pub unarmed_of : Heads → Bool
 unarmed_of h =
-    if (head_at h 0).regs.te then false else
-    if (head_at h 1).regs.te then false else not (head_at h 2).regs.te
+    when (head_at h 0).regs.te then false else
+    when (head_at h 1).regs.te then false else not (head_at h 2).regs.te
 
 -- ---- document 02, request Two: the keys that a write forgets
 
@@ -59,7 +59,7 @@ keyless_head h = with_key h false
 
 -- CTRLPRESET's key is number 3
 abbrev pub common_left : Common → ℕ → Common
-common_left k c = record { be = k.be; mask = k.mask; key = if eqb c 3 then k.key else false }
+common_left k c = record { be = k.be; mask = k.mask; key = when eqb c 3 then k.key else false }
 
 -- every key forgotten but number c
 abbrev pub forgotten_heads : Heads → ℕ → Heads
@@ -68,9 +68,9 @@ forgotten_heads h c = record { channels = all_but keyless_head blank_head h.chan
 -- some A5h is pending
 unfoldable pub keyed_of : Heads → Bool
 keyed_of h =
-    if (head_at h 0).key then true else
-    if (head_at h 1).key then true else
-    if (head_at h 2).key then true else h.common.key
+    when (head_at h 0).key then true else
+    when (head_at h 1).key then true else
+    when (head_at h 2).key then true else h.common.key
 
 -- what a step forgets, before it is served
 abbrev pub heads_left : Target → Heads → Heads

@@ -2,7 +2,7 @@
 #![tactic(auto)]
 
 ghost use Rattle.std.specs.Prelude.{false, [], ◌∷◌, ◌≡◌, ◌<◌};
-ghost use Rattle.laws.specs.Pick.{if◌then◌else◌};
+ghost use Rattle.laws.specs.Pick.{when◌then◌else◌};
 ghost use Rattle.rules.specs.Registers.{active_of};
 ghost use Rattle.interrupt.specs.Interrupt.{pending_of};
 ghost use Rattle.head.specs.Head.{kind_of};
@@ -68,14 +68,14 @@ pub fn one_told(k: Common, c: u8, r: Headed) -> OneStepped
 }
 
 fn kept(own: bool, key: bool) -> bool
-    ensures { result ≡ (if own then key else false) }
+    ensures { result ≡ (when own then key else false) }
 {
     if own { key } else { false }
 }
 
 // A head with what is left of its key, where it is the write's own or not.
 fn head_left(h: Head, own: bool) -> Head
-    ensures { result ≡ with_key h (if own then h.key else false) }
+    ensures { result ≡ with_key h (when own then h.key else false) }
 {
     h.with_key(kept(own, h.key))
 }
@@ -166,7 +166,7 @@ impl Heads {
     }
 
     fn forget_where(self, write: bool, c: u8) -> Heads
-        ensures { result ≡ (if write then forgotten_heads self c else self) }
+        ensures { result ≡ (when write then forgotten_heads self c else self) }
     {
         if write { self.forget_but(c) } else { self }
     }

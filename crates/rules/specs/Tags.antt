@@ -1,6 +1,6 @@
 -- Document 02, request Eleven: the kinds by which a capture names actions and events. This is the one table of such numbers.
 use Rattle.std.specs.Prelude.{ℕ, Bool, false, List, [], ◌∷◌, eqb}
-use Rattle.laws.specs.Pick.{if◌then◌else◌}
+use Rattle.laws.specs.Pick.{when◌then◌else◌}
 use Rattle.rules.specs.declared.wires.Action.{Action}
 use Rattle.rules.specs.declared.wires.Action.TheVariants.{Nothing, S, R, D, C, A, Np, Nr, P}
 use Rattle.rules.specs.declared.wires.Event.{Event}
@@ -42,11 +42,11 @@ event_tag Sent = tag 20 0
 
 -- the same kind and the same value
 unfoldable pub same_tag : Tag → Tag → Bool
-same_tag t u = if eqb t.kind u.kind then eqb t.value u.value else false
+same_tag t u = when eqb t.kind u.kind then eqb t.value u.value else false
 
 -- an event, if the tag is its own
 unfoldable pub known_as : Tag → Event → Decoded → Decoded
-known_as t e rest = if same_tag t (event_tag e) then Known e else rest
+known_as t e rest = when same_tag t (event_tag e) then Known e else rest
 
 -- the first of some events whose own tag it is
 abbrev pub among : Tag → List Event → Decoded
@@ -63,4 +63,4 @@ event_of t = among t (events_with t.value)
 
 -- of a kind that carries no value: its event, if the value beside it is 0
 unfoldable pub plain_of : Event → ℕ → Decoded
-plain_of e v = if eqb v 0 then Known e else NoEvent
+plain_of e v = when eqb v 0 then Known e else NoEvent

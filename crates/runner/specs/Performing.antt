@@ -1,6 +1,6 @@
 -- What a line does to a part and its memory (`answered`, `after_line`, Run.antt), by whom it concerns.
 use Rattle.std.specs.Prelude.{ℕ, ◌<◌, Bool, false, List}
-use Rattle.laws.specs.Pick.{if◌then◌else◌}
+use Rattle.laws.specs.Pick.{when◌then◌else◌}
 use Rattle.steps.specs.declared.map.Target.{Target}
 use Rattle.steps.specs.declared.map.Target.TheVariants.{One as OneTarget, All as AllTarget}
 use Rattle.steps.specs.declared.map.Wide.TheVariants.{Beyond}
@@ -43,7 +43,7 @@ aim_target (Others t) = rest_target t
 
 -- whether it may forget a key: a step of one channel only where it writes, and then only what is pending
 abbrev pub may_forget : Heads → Aim → Bool
-may_forget h (One op c) = if op_writes op then keyed_of h else false
+may_forget h (One op c) = when op_writes op then keyed_of h else false
 may_forget h (Others t) = keyed_of h
 
 -- what is no step of one channel: a line that can't be read is no. 8, and leaves the part

@@ -1,6 +1,6 @@
 // The lines of a block answered in turn, each by a step of the part.
 ghost use Rattle.std.specs.Prelude.{◌≡◌, ◌≤◌, ltb, false, length};
-ghost use Rattle.laws.specs.Pick.{if◌then◌else◌};
+ghost use Rattle.laws.specs.Pick.{when◌then◌else◌};
 ghost use Rattle.steps.specs.Keys.{op_writes};
 ghost use Rattle.heads.specs.Heads.{keyed_of};
 ghost use Rattle.steps.specs.Facts.{InPart};
@@ -88,7 +88,7 @@ fn may_forget(heads: Heads, a: Aim) -> bool
 }
 
 fn writes_keyed(heads: Heads, op: Op) -> bool
-    ensures { result ≡ (if op_writes op then keyed_of heads else false) }
+    ensures { result ≡ (when op_writes op then keyed_of heads else false) }
 {
     if steps::op_writes(op) {
         return heads.keyed();

@@ -1,6 +1,6 @@
 -- What `./seq save` makes of a script's lines: the part and the memory after them, and which of them were refused.
 use Rattle.std.specs.Prelude.{ℕ, ◌+◌, List, [], ◌∷◌, ◌≡◌, eqb}
-use Rattle.laws.specs.Pick.{if◌then◌else◌}
+use Rattle.laws.specs.Pick.{when◌then◌else◌}
 use Rattle.rules.specs.Numbers.{done}
 use Rattle.rules.specs.declared.parts.Device.TheVariants.{Pca9663}
 use Rattle.part.specs.State.{fresh_part}
@@ -22,8 +22,8 @@ none_yet = record { lines = 0; refused = 0; first = 0; number = done }
 -- one more line, which got number n: any number but 0 is a refusal, and the first of them is kept
 unfoldable pub counted : Tally → ℕ → Tally
 counted t n =
-    if eqb n done then record { lines = t.lines + 1; refused = t.refused; first = t.first; number = t.number } else
-    if eqb t.refused 0 then record { lines = t.lines + 1; refused = 1; first = t.lines + 1; number = n } else
+    when eqb n done then record { lines = t.lines + 1; refused = t.refused; first = t.first; number = t.number } else
+    when eqb t.refused 0 then record { lines = t.lines + 1; refused = 1; first = t.lines + 1; number = n } else
     record { lines = t.lines + 1; refused = t.refused + 1; first = t.first; number = t.number }
 
 -- the tally of some lines, from a state on, behind those before them

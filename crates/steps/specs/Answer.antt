@@ -1,6 +1,6 @@
 -- What a step answers beside its number and its value: an action for each channel.
 use Rattle.std.specs.Prelude.{ℕ, Bool, List, [], ◌∷◌, set}
-use Rattle.laws.specs.Pick.{if◌then◌else◌}
+use Rattle.laws.specs.Pick.{when◌then◌else◌}
 use Rattle.rules.specs.declared.wires.Action.{Action}
 use Rattle.rules.specs.declared.wires.Action.TheVariants.{Nothing}
 use Rattle.steps.specs.declared.answer.Act.{Act}
@@ -11,7 +11,7 @@ quiet = record { action = Nothing } ∷ record { action = Nothing } ∷ record {
 
 -- an action where a test holds
 unfoldable pub act_if : Bool → Action → Act
-act_if mine a = if mine then record { action = a } else record { action = Nothing }
+act_if mine a = when mine then record { action = a } else record { action = Nothing }
 
 -- an action of channel c alone
 abbrev pub only_at : ℕ → Action → List Act

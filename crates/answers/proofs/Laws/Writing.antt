@@ -11,7 +11,7 @@ use lib.Dec.{ltb}
 use lib.ListN.{length, get_or, take, drop, set, length-append, drop_of_length-le}
 use lib.Seq.{sets, drop-cons, set_comm}
 use borrow.Author.Tests.{le-leb, lt-leb, lt-ltb, le-ltb, leb-true, ltb-true, ltb-false}
-use Rattle.laws.specs.Pick.{if◌then◌else◌}
+use Rattle.laws.specs.Pick.{when◌then◌else◌}
 use Rattle.laws.specs.Sets.{sets_append}
 use Rattle.laws.specs.Cases.{flag_true, flag_false, false_not_true}
 use Rattle.rules.specs.declared.wires.Action.{Action}
@@ -23,11 +23,11 @@ put_none l at = record { place = omega arith; bytes = refl }
 
 -- a text that a test asks for
 pub put-yes : {l m t : List ℕ} {at r : ℕ} (b : Bool) → Put l at t r m → b ≡ true → Put l at (text_if b t) r m
-unfolding text_if if◌then◌else◌
+unfolding text_if when◌then◌else◌
 put-yes b p e = rw e p
 
 pub put_no : (l t : List ℕ) (at : ℕ) (b : Bool) → b ≡ false → Put l at (text_if b t) at l
-unfolding text_if if◌then◌else◌
+unfolding text_if when◌then◌else◌
 put_no l t at b e = rw e (put_none l at)
 
 -- one text, and another after it
@@ -56,7 +56,7 @@ pub ruleset puts = (put-yes, put_no, put_first, put-more, put_all, flag_true, fl
 
 -- ---- how many decimal digits: n of them, where x is from 10 ^ (n - 1) on, below 10 ^ n
 length_digits : (m n x : ℕ) → n ≤ m → 10 ^ n ≤ x → x < 10 ^ suc n → length (digits_of (suc m) x) ≡ suc n
-unfolding digits_of if◌then◌else◌
+unfolding digits_of when◌then◌else◌
 length_digits m zero x k h p = rw (lt-ltb x 10 p)
 length_digits zero (suc n) x k h p = absurd (omega arith)
 length_digits (suc m) (suc n) x k h p =
@@ -91,7 +91,7 @@ sets_last l (x ∷ xs) at d =
 
 -- where m + 1 digits are enough, one more changes nothing
 digits_enough : (m x : ℕ) → x < 10 ^ suc m → digits_of (suc m) x ≡ digits_of (suc (suc m)) x
-unfolding digits_of if◌then◌else◌
+unfolding digits_of when◌then◌else◌
 digits_enough zero x h = rw (lt-ltb x 10 h)
 digits_enough (suc m) x h =
     let h' : x < 10 ^ suc m * 10 = rw (pow-suc 10 (suc m)) at h in
@@ -99,18 +99,18 @@ digits_enough (suc m) x h =
 
 -- the last digit stands behind those of a tenth
 digits_last : (x : ℕ) → 10 ≤ x → x < 18446744073709551616 → digits_of 20 x ≡ digits_of 20 (x / 10) ++ ((48 + x % 10) ∷ [])
-unfolding digits_of if◌then◌else◌
+unfolding digits_of when◌then◌else◌
 digits_last x h k =
     let e : digits_of 19 (x / 10) ≡ digits_of 20 (x / 10) = digits_enough 18 (x / 10) (omega arith) in
     rw (← e, le-ltb x 10 h)
 
 digit_alone : (x : ℕ) → x < 10 → digits_of 20 x ≡ (48 + x) ∷ []
-unfolding digits_of if◌then◌else◌
+unfolding digits_of when◌then◌else◌
 digit_alone x h = let e : x % 10 ≡ x = omega arith in rw (lt-ltb x 10 h, e)
 
 digits_some : (x : ℕ) → 0 < length (digits_of 20 x)
 unfolding digits_of
-digits_some x = rw (length-append (if ltb x 10 then [] else digits_of 19 (x / 10)) ((48 + x % 10) ∷ [])) (omega arith)
+digits_some x = rw (length-append (when ltb x 10 then [] else digits_of 19 (x / 10)) ((48 + x % 10) ∷ [])) (omega arith)
 
 pub digits_any : (i x : ℕ) → i ≡ length (digits_of 20 x) → 1 ≤ i
 digits_any i x e = let k = digits_some x in omega (arith, k)
@@ -143,7 +143,7 @@ pub ruleset decimals = (digits_any, digits_in, digits_from, digits_less, digits_
 -- ---- letters, up to four
 module _ (l : List ℕ) (i n : ℕ) (h : i < length l) where
   take_by : (b : Bool) → ltb i n ≡ b → take (n - i) (drop i l) ≡ text_if b (get_or l i 0 ∷ []) ++ take (n - suc i) (drop (suc i) l)
-  unfolding text_if if◌then◌else◌
+  unfolding text_if when◌then◌else◌
   take_by true e =
       let k = ltb-true i n e in
       let m : n - i ≡ suc (n - suc i) = omega (arith, k) in
@@ -167,12 +167,12 @@ letters_are l n e h =
 
 -- ---- no action
 or_none : (a b : Bool) → or_of a b ≡ false → (a ≡ false) × (b ≡ false)
-unfolding if◌then◌else◌
+unfolding when◌then◌else◌
 or_none true b e = absurd (omega (arith, false_not_true (sym e)))
 or_none false b e = (refl, e)
 
 pub put_dash : (l : List ℕ) (at : ℕ) (a b c : Action) → or_of (or_of (busy_of a) (busy_of b)) (busy_of c) ≡ false → Put l at (by_commas a b c) (at + 1) (set l at 45)
-unfolding action_of text_if if◌then◌else◌
+unfolding action_of text_if when◌then◌else◌
 put_dash l at a b c e =
     let two = or_none (or_of (busy_of a) (busy_of b)) (busy_of c) e in
     let one = or_none (busy_of a) (busy_of b) two.0 in

@@ -1,6 +1,5 @@
 -- `answers::put` meets its contract: what is put from place i on, there, is what is put from the start.
 use Prim.Native.Nat.{◌≤◌, ◌+◌, ◌-◌}
-use Rattle.answers.proofs.Laws.Writing.{puts}
 use lib.ListN.{length, drop}
 use lib.Seq.{sets}
 use mathlib.Core.Path.{◌≡◌}

@@ -1,10 +1,5 @@
 -- `answers::put_digits` meets its contract: what the digits still to be put make of the output is what all of them make.
-use Prim.Native.Nat.{◌<◌, ◌≤◌}
 use Rattle.answers.proofs.Laws.Writing.{decimals}
-use Rattle.answers.specs.Answer.{decimal_of}
-use lib.ListN.{length}
-use lib.Seq.{sets}
-use mathlib.Core.Path.{◌≡◌}
 use Rattle.answers.proofs.put_digits.Goals as goal
 
 pub overflow_sub-i : goal.overflow_sub-i

@@ -1,7 +1,6 @@
 -- `answers::put_line` meets its contract: six texts, one after the other.
 use Rattle.answers.proofs.Laws.Writing.{put_then}
 use Rattle.answers.specs.Answer.{answer_line}
-use borrow.Author.Rules.{rules}
 use native.Mathlib.Omega.{arith}
 use Rattle.answers.proofs.put_line.Goals as goal
 

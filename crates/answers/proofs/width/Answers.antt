@@ -1,7 +1,5 @@
 -- `answers::width` meets its contract: the limit, which the number reaches, is the least number of n digits.
-use Prim.Native.Nat.{◌≤◌, ◌*◌, ◌^◌, ◌-◌}
 use Rattle.answers.proofs.Laws.Writing.{widths}
-use mathlib.Core.Path.{◌≡◌}
 use Rattle.answers.proofs.width.Goals as goal
 
 pub returns : goal.returns

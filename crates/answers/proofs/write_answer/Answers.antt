@@ -1,5 +1,5 @@
 -- `answers::write_answer` meets its contract.
-use Rattle.answers.proofs.Laws.Writing.{puts, room_is}
+use Rattle.answers.proofs.Laws.Writing.{puts}
 use borrow.Author.Rules.{rules}
 use Rattle.answers.proofs.write_answer.Goals as goal
 

@@ -2,7 +2,7 @@
 use Rattle.std.specs.Prelude.{Bool, true, false, not, List, ◌≡◌, refl, ℕ, zero, suc, ◌+◌, ◌-◌, ◌/◌, ◌%◌, ◌<◌, ◌≤◌, get_or, set, eqb}
 use Rattle.std.proofs.Common.{sym, ◌∙◌, ap, ⊎_elim, arith, eq-or-lt_of_le, rules, get_or-set_other}
 use borrow.Author.Tests.{eq-eqb, ne_eqb, lt-ltb, le-ltb, ltb-true, ltb-false, leb-true, eqb-true, not-true}
-use Rattle.laws.specs.Pick.{if◌then◌else◌}
+use Rattle.laws.specs.Pick.{when◌then◌else◌}
 use Rattle.laws.specs.Cases.{past, both, on, with, left-more, left_none, false_not_true}
 use Rattle.rules.specs.declared.parts.Device.{Device}
 use Rattle.rules.specs.declared.parts.Device.TheVariants.{Pca9663, Pcu9669}
@@ -74,11 +74,11 @@ unfolding clear_from
 clear_end l i r e h = sym (rw (left_none 64 i h) at e)
 
 pub clear_not : (l : List ℕ) (i : ℕ) (r : Bool) → r ≡ clear_after l i → i < 64 → (get_or l i 0 ≡ 0 → ⊥) → false ≡ r
-unfolding clear_from if◌then◌else◌
+unfolding clear_from when◌then◌else◌
 clear_not l i r e h n = sym (rw (left-more 64 i h, ne_eqb (get_or l i 0) 0 n) at e)
 
 pub clear_more : (l : List ℕ) (i : ℕ) (r : Bool) → r ≡ clear_after l i → i < 64 → get_or l i 0 ≡ 0 → r ≡ clear_after l (i + 1)
-unfolding clear_from if◌then◌else◌
+unfolding clear_from when◌then◌else◌
 clear_more l i r e h n = rw (left-more 64 i h, eq-eqb (get_or l i 0) 0 n) at e
 
 pub ruleset clears = (clear_end, clear_not, clear_more, rules)
@@ -173,7 +173,7 @@ stands_counted kind sla lens counts n v s = record {
 
 -- a UFm channel receives nothing: a read is skipped there
 pub no_receiving : (n : ℕ) (sla lens counts : List ℕ) → get_or lens 0 0 ≤ 64 → frame_in Ufm (Receiving n) sla lens counts ≡ true → ⊥
-unfolding frame_in frame_at standing counts_in counted_in skipped_of read_skipped if◌then◌else◌
+unfolding frame_in frame_at standing counts_in counted_in skipped_of read_skipped when◌then◌else◌
 no_receiving n sla lens counts few e =
     let s = (stands_of Ufm (Receiving n) sla lens counts n few e).sent in
     let r = (both (reads_of (get_or sla n 0)) _ (frame-counted Ufm (Receiving n) sla lens counts n e)).0 in
@@ -181,7 +181,7 @@ no_receiving n sla lens counts few e =
 
 -- ---- the kinds of the channels are those of the part that channel 1 names, and each part's are so
 pub kinds_of : (a b c : Kind) → kinds_in a b c ≡ true → (a ≡ Fm) × (b ≡ other_kind (device_by b)) × (c ≡ other_kind (device_by b))
-unfolding kinds_in if◌then◌else◌
+unfolding kinds_in when◌then◌else◌
 kinds_of Fm Fm Fm e = (refl, refl, refl)
 kinds_of Fm Fm Ufm e = absurd (let z = false_not_true e in omega (arith, z))
 kinds_of Fm Ufm Fm e = absurd (let z = false_not_true e in omega (arith, z))
@@ -189,6 +189,6 @@ kinds_of Fm Ufm Ufm e = (refl, refl, refl)
 kinds_of Ufm b c e = absurd (let z = false_not_true e in omega (arith, z))
 
 pub of_kinds : (d : Device) → kinds_in Fm (other_kind d) (other_kind d) ≡ true
-unfolding kinds_in if◌then◌else◌
+unfolding kinds_in when◌then◌else◌
 of_kinds Pca9663 = refl
 of_kinds Pcu9669 = refl

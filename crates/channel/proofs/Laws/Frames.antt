@@ -5,7 +5,7 @@ use Rattle.std.proofs.Common.{◌∙◌, arith}
 use borrow.Author.Tests.{lt-ltb, eq-eqb, ltb-true, eqb-true, eqb-false}
 use Rattle.std.proofs.Math.ListN.{length-set}
 use Rattle.std.proofs.lemmas.List.{get_or-replicate}
-use Rattle.laws.specs.Pick.{if◌then◌else◌}
+use Rattle.laws.specs.Pick.{when◌then◌else◌}
 use Rattle.laws.specs.Cases.{pick_holds, past, both, on, with, false_not_true}
 use Rattle.rules.specs.declared.parts.Kind.{Kind}
 use Rattle.rules.specs.declared.parts.Kind.TheVariants.{Fm, Ufm}
@@ -80,25 +80,25 @@ Held c = (pointers_in c.head.ptrs ≡ true) × (registers_in (count_of c) c.head
 abbrev pub Ends : Channel → ℕ → Type 0
 Ends c n = ended_in Waiting c.head.regs.te (framecnt_of c.head) n ≡ true
 
-either : (b : Bool) → (if b then b else true) ≡ true
-unfolding if◌then◌else◌
+either : (b : Bool) → (when b then b else true) ≡ true
+unfolding when◌then◌else◌
 either true = refl
 either false = refl
 
 pub zero-ends : (te : Bool) (n : ℕ) → ended_in Waiting te n 0 ≡ true
-unfolding ended_in counting_of if◌then◌else◌
+unfolding ended_in counting_of when◌then◌else◌
 zero-ends true n = refl
 zero-ends false n = either (ltb 0 n)
 
 more-ends : (n k : ℕ) → ltb (k + 1) n ≡ true → ended_in Waiting false n (k + 1) ≡ true
-unfolding ended_in counting_of if◌then◌else◌
+unfolding ended_in counting_of when◌then◌else◌
 more-ends n k e =
     let h = ltb-true (k + 1) n e in
     let z : ltb 0 n ≡ true = lt-ltb 0 n (omega arith) in rw (z, e)
 
 -- ---- Idle and Waiting
 idle_walk : (te : Bool) (n : ℕ) → walk_in idle te n ≡ true
-unfolding walk_in ended_in counting_of recorded_in blank_of if◌then◌else◌
+unfolding walk_in ended_in counting_of recorded_in blank_of when◌then◌else◌
 idle_walk te n = refl
 
 idled_in : (c : Channel) → Held c → In (with_head c (idled c.head))
@@ -106,7 +106,7 @@ unfolding frame_in
 idled_in c h = (h.0, h.1, idle_walk _ _, refl)
 
 pub waited_in : (c : Channel) (n : ℕ) → Held c → Ends c n → In (with_head c (with_walk c.head (waiting n)))
-unfolding frame_in walk_in recorded_in blank_of if◌then◌else◌
+unfolding frame_in walk_in recorded_in blank_of when◌then◌else◌
 waited_in c n h e = (h.0, h.1, with _ _ e refl, refl)
 
 -- ---- the frame's end
@@ -117,7 +117,7 @@ Waits te n Sd = Unit {0}
 Waits te n (Wait k) = ended_in Waiting te n k ≡ true
 
 rest_waits : (te : Bool) (n k : ℕ) → Waits te n (rest_of te n k)
-unfolding Waits rest_of if◌then◌else◌
+unfolding Waits rest_of when◌then◌else◌
 rest_waits true n k = zero-ends true n
 rest_waits false n k =
     pick_holds (Waits false n) (eqb n 0) (λ _. zero-ends false n)
@@ -184,14 +184,14 @@ found c from to few fits clear e f t =
 walk_sends : (c : Channel) (from : ℕ) → count_of c ≤ 64 → fitting c.tranconfig ≡ true
     → ((k : ℕ) → from ≤ k → k < 64 → get_or c.bytecount k 0 ≡ 0)
     → Sends c (move_of false (first_sent (kind_of c.head) c.slatable c.tranconfig from (count_of c)) (count_of c))
-unfolding move_of if◌then◌else◌ Sends
+unfolding move_of when◌then◌else◌ Sends
 walk_sends c from few fits clear =
     let to = first_sent (kind_of c.head) c.slatable c.tranconfig from (count_of c) in
     pick_holds (Sends c) (ltb to (count_of c)) (λ t. found c from to few fits clear refl (first_from _ _ _ _ _) t) (λ _. tt)
 
 next_sends : (c : Channel) (n : ℕ) (halt : Bool) → Stands (kind_of c.head) c.slatable c.tranconfig c.bytecount n
     → Sends c (move_of halt (reach_of (kind_of c.head) halt n c.slatable c.tranconfig) (count_of c))
-unfolding move_of reach_of if◌then◌else◌ Sends
+unfolding move_of reach_of when◌then◌else◌ Sends
 next_sends c n true s = tt
 next_sends c n false s = walk_sends c (n + 1) s.few s.fits (λ k h g. s.clear k (omega arith) g)
 
@@ -266,7 +266,7 @@ send_on_lem c m n k Over r w s = finished_in c n _ r
 
 -- a read that is not skipped has a length
 read_length : (kind : Kind) (sla len : ℕ) → reads_of sla ≡ true → skipped_of kind sla len ≡ false → 0 < len
-unfolding skipped_of read_skipped if◌then◌else◌
+unfolding skipped_of read_skipped when◌then◌else◌
 read_length Fm sla len r e = let h = eqb-false len 0 (rw r at e) in omega arith
 read_length Ufm sla len r e = absurd (let z = false_not_true (sym (rw r at e)) in omega (arith, z))
 

@@ -4,7 +4,7 @@ use mathlib.Core.List.{List, [], ◌∷◌}
 use Rattle.std.proofs.Math.Path.{refl, sym}
 use Rattle.std.proofs.Common.{◌∙◌, arith, eqb-true, eq-eqb, ltb-true, ltb-false, length-set}
 use Rattle.std.proofs.lemmas.List.{length-replicate}
-use Rattle.laws.specs.Pick.{if◌then◌else◌}
+use Rattle.laws.specs.Pick.{when◌then◌else◌}
 use Rattle.laws.specs.Cases.{pick_holds, past, both, with, false_not_true, accepted}
 use Rattle.rules.specs.declared.parts.Kind.{Kind}
 use Rattle.rules.specs.declared.parts.Straps.{Straps}
@@ -61,7 +61,7 @@ open_frame k Waiting at s l b e = refl
 
 -- in Idle the number of ended frames is 0, whatever TE and FRAMECNT are
 idle_ended : (p : Phase) (te te' : Bool) (n n' k : ℕ) → active_of p ≡ false → ended_in p te n k ≡ true → ended_in p te' n' k ≡ true
-unfolding ended_in counting_of if◌then◌else◌
+unfolding ended_in counting_of when◌then◌else◌
 idle_ended Idle te te' n n' k a e = e
 idle_ended (Address x) te te' n n' k a e = absurd (omega (arith, false_not_true (sym a)))
 idle_ended (Sending x) te te' n n' k a e = absurd (omega (arith, false_not_true (sym a)))
@@ -85,7 +85,7 @@ entry_0 (x ∷ l) zero v h k = k refl
 entry_0 (x ∷ l) (suc i) v h k = h
 
 not_many : (at v : ℕ) → too_many at v ≡ false → at ≡ 0 → v ≤ 64
-unfolding too_many if◌then◌else◌
+unfolding too_many when◌then◌else◌
 not_many at v e q = ltb-false 64 v (rw (eq-eqb at 0 q) at e)
 
 -- ---- the pointers after a write to CONTROL
@@ -141,7 +141,7 @@ asked_in_lem c Seq h r = r
 asked_in_lem c Leave h r = left_in c (h.0, h.1)
 
 idle_none : (te : Bool) (n k : ℕ) → ended_in Idle te n k ≡ true → k ≡ 0
-unfolding ended_in counting_of if◌then◌else◌
+unfolding ended_in counting_of when◌then◌else◌
 idle_none te n k e = eqb-true k 0 e
 
 module _ (c : Channel) (h : In c) where
@@ -269,7 +269,7 @@ unfolding guarded
 guarded_in n c m d h f = pick_holds (Fine m) (eqb n done) (λ t. f (eqb-true n done t)) (λ _. (h, refl))
 
 fresh_in : (x : Straps) → In (fresh x)
-unfolding pointers_in registers_in walk_in ended_in counting_of recorded_in blank_of frame_in if◌then◌else◌
+unfolding pointers_in registers_in walk_in ended_in counting_of recorded_in blank_of frame_in when◌then◌else◌
 fresh_in x = (refl, refl, refl, refl)
 
 pub zeros-length : length zeros ≡ buffer_size

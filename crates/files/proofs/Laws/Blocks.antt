@@ -6,7 +6,7 @@ use native.Mathlib.Omega.{arith}
 use borrow.Author.Tests.{le-leb, lt-leb, le-ltb, lt-ltb}
 use lib.ListN.{length, get_or, take, drop, replicate, length-drop}
 use lib.Seq.{length-take-le}
-use Rattle.laws.specs.Pick.{if◌then◌else◌}
+use Rattle.laws.specs.Pick.{when◌then◌else◌}
 use Rattle.rules.specs.Numbers.{buffer_size}
 use Rattle.rules.specs.Tables.{start_of, fitting}
 use Rattle.channel.specs.State.{zeros}
@@ -32,7 +32,7 @@ first_count f n h = rw (body_is f) (sym (length-take-le n (body_of f) (let d = l
 
 pub fault_behind : (f : List ℕ) (n s : ℕ) (r : Fault) → 12 ≤ length f → n ≡ count_in f → n ≤ 64 → 12 + 2 * n ≤ length f
     → s ≡ total (take (2 * n - n) (drop n (body f))) → r ≡ body_fault f n s → r ≡ fault_of f
-unfolding fault_of if◌then◌else◌
+unfolding fault_of when◌then◌else◌
 fault_behind f n s r h e few long sum b =
     let t : s ≡ total (take n (drop n (body_of f))) = sum ∙ ap total (second_is f n) in
     b ∙ rw (le-ltb (length f) 12 h, ← e, le-ltb 64 n few, le-ltb (length f) (12 + 2 * n) long, t)
@@ -71,13 +71,13 @@ file_put h a lens d o r n s e p q k =
 -- ---- whether there is room
 module _ (lens : List ℕ) (room n s : ℕ) (p : n ≡ get_or lens 0 0) (q : s ≡ start_of lens n) where
   pub room_short : s ≤ buffer_size → room < (12 + 2 * n) + s → 11 ≡ room_number lens room
-  unfolding room_number fitting if◌then◌else◌
+  unfolding room_number fitting when◌then◌else◌
   room_short h k = rw (← p, ← q, le-leb s buffer_size h, lt-ltb room ((12 + 2 * n) + s) k)
 
   pub room_done : s ≤ buffer_size → (12 + 2 * n) + s ≤ room → 0 ≡ room_number lens room
-  unfolding room_number fitting if◌then◌else◌
+  unfolding room_number fitting when◌then◌else◌
   room_done h k = rw (← p, ← q, le-leb s buffer_size h, le-ltb room ((12 + 2 * n) + s) k)
 
   pub room_never : buffer_size < s → 11 ≡ room_number lens room
-  unfolding room_number fitting if◌then◌else◌
+  unfolding room_number fitting when◌then◌else◌
   room_never h = rw (← p, ← q, lt-leb s buffer_size h)

@@ -7,7 +7,7 @@ use native.Mathlib.Omega.{arith}
 use borrow.Author.Tests.{eq-eqb, ne_eqb}
 use lib.Dec.{eqb}
 use lib.ListN.{length, get_or, take, drop}
-use Rattle.laws.specs.Pick.{if◌then◌else◌}
+use Rattle.laws.specs.Pick.{when◌then◌else◌}
 use Rattle.laws.specs.Cases.{pick_true, pick-false}
 use Rattle.rules.specs.Numbers.{buffer_size, done}
 use Rattle.rules.specs.Tables.{start_of}
@@ -82,10 +82,10 @@ module _ (sla lens m out : List ℕ) (n s : ℕ) (p : n ≡ get_or lens 0 0) (q 
 
 -- ---- a file that is written leaves the channel
 pub save_leaves : (out : List ℕ) (o : Own) → (save_work out).after o ≡ o
-unfolding deed_after if◌then◌else◌
+unfolding deed_after when◌then◌else◌
 save_leaves out o = go (eqb (deed_number (save_deed out) o) done)
   where
-    go : (b : Bool) → (if b then o else o) ≡ o
+    go : (b : Bool) → (when b then o else o) ≡ o
     go true = refl
     go false = refl
 

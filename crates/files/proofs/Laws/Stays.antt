@@ -5,7 +5,7 @@ use mathlib.Core.List.{List}
 use Rattle.std.proofs.Common.{◌∙◌, ltb-true, ltb-false, get_or-set_same}
 use Rattle.std.proofs.Math.Path.{ap}
 use Rattle.std.proofs.Math.Seq.{set_out}
-use Rattle.laws.specs.Pick.{if◌then◌else◌}
+use Rattle.laws.specs.Pick.{when◌then◌else◌}
 use Rattle.laws.specs.Cases.{pick_holds}
 use Rattle.rules.specs.Numbers.{done, past_buffer}
 use Rattle.rules.specs.Registers.{active_of}
@@ -54,17 +54,17 @@ module _ (s : State) (g : Accepted s) (c : ℕ) (d : Deed) (calm : (o : Own) →
   own_key o = pick_holds (λ (x : Own). x.channel.head.key ≡ o.channel.head.key) (eqb (deed_number d o) done) (λ _. keeps o) (λ _. refl)
 
   key_in : (b : Bool) → ltb c (length s.part.channels) ≡ b → (chan (work_after s c (idle_work d)).part c).head.key ≡ (chan s.part c).head.key
-  unfolding work_after if◌then◌else◌
+  unfolding work_after when◌then◌else◌
   key_in true t =
       ap (λ (x : Channel). x.head.key) (get_or-set_same s.part.channels c (deed_after d (own_of s c)).channel blank (ltb-true c (length s.part.channels) t)) ∙ own_key (own_of s c)
   key_in false t = ap (λ (l : List Channel). (get_or l c blank).head.key) (set_out s.part.channels c (deed_after d (own_of s c)).channel (ltb-false c (length s.part.channels) t))
 
   after_left : Left (work_after s c (idle_work d))
-  unfolding work_after be_after if◌then◌else◌
+  unfolding work_after be_after when◌then◌else◌
   after_left = (rw (calm (own_of s c)), key_in (ltb c (length s.part.channels)) refl)
 
   done-left : Left (work_done s c (idle_work d))
-  unfolding work_done if◌then◌else◌
+  unfolding work_done when◌then◌else◌
   done-left = rw g (pick_holds Left (ltb c 3) (λ _. after_left) (λ _. (refl, refl)))
 
   pub untouched : Untouched c s (work_done s c (idle_work d))

@@ -8,7 +8,7 @@ use native.Mathlib.Omega.{arith}
 use borrow.Author.Tests.{eqb-true, eq-eqb, ltb-false, le-ltb}
 use Rattle.std.proofs.Math.ListN.{length, take, length-append, take-append-drop}
 use Rattle.std.proofs.Math.Seq.{take_at, drop_at}
-use Rattle.laws.specs.Pick.{if◌then◌else◌}
+use Rattle.laws.specs.Pick.{when◌then◌else◌}
 use Rattle.laws.specs.Cases.{both, with, false_not_true}
 use Rattle.rules.specs.Numbers.{buffer_size}
 use Rattle.files.specs.declared.format.Fault.{Fault}
@@ -17,7 +17,7 @@ use Rattle.files.specs.File.{header_of, file_of, total, count_in, body_of, addre
 
 -- ---- two lists that are the same
 pub same_is : (l k : List ℕ) → same_as l k ≡ true → l ≡ k
-unfolding if◌then◌else◌
+unfolding when◌then◌else◌
 same_is [] [] e = refl
 same_is [] (y ∷ k) e = absurd (omega (arith, false_not_true e))
 same_is (x ∷ l) [] e = absurd (omega (arith, false_not_true e))
@@ -78,7 +78,7 @@ module _ (a b d : List ℕ) (h : Blocks a b d) where
 
   -- WHAT THE WRITER GIVES IS READABLE
   pub written_readable : Readable (file_of a b d)
-  unfolding fault_of body_fault headed if◌then◌else◌
+  unfolding fault_of body_fault headed when◌then◌else◌
   written_readable =
       let g = file_of a b d in
       let s : total (lengths_in g) ≡ length d = ap total lengths_of ∙ sym h.sums in
@@ -116,13 +116,13 @@ pub number_readable : (f : List ℕ) → fault_number (fault_of f) ≡ 0 → Rea
 number_readable f e = sound_only (fault_of f) e
 
 -- a test that finds a fault was passed
-unfaulted : (b : Bool) (x y : Fault) → (fault_number x ≡ 0 → ⊥) → (if b then x else y) ≡ Sound → (b ≡ false) × (y ≡ Sound)
-unfolding if◌then◌else◌
+unfaulted : (b : Bool) (x y : Fault) → (fault_number x ≡ 0 → ⊥) → (when b then x else y) ≡ Sound → (b ≡ false) × (y ≡ Sound)
+unfolding when◌then◌else◌
 unfaulted true x y ne e = absurd (ne (ap fault_number e))
 unfaulted false x y ne e = (refl, e)
 
-sound_true : (b : Bool) (y : Fault) → (fault_number y ≡ 0 → ⊥) → (if b then Sound else y) ≡ Sound → b ≡ true
-unfolding if◌then◌else◌
+sound_true : (b : Bool) (y : Fault) → (fault_number y ≡ 0 → ⊥) → (when b then Sound else y) ≡ Sound → b ≡ true
+unfolding when◌then◌else◌
 sound_true true y ne e = refl
 sound_true false y ne e = absurd (ne (ap fault_number e))
 

@@ -2,7 +2,7 @@
 use Rattle.std.specs.Prelude.{ℕ, zero, suc, Bool, true, false, List, [], ◌∷◌, map, ◌≡◌, refl, eqb, length, get_or, set}
 use Rattle.std.proofs.Common.{sym, ◌∙◌, ap, subst, arith, ne_eqb}
 use Rattle.std.proofs.lemmas.List.{set-get_or}
-use Rattle.laws.specs.Pick.{if◌then◌else◌}
+use Rattle.laws.specs.Pick.{when◌then◌else◌}
 use Rattle.laws.specs.Cases.{pick_holds, false_not_true}
 use Rattle.steps.specs.declared.map.Target.{Target}
 use Rattle.steps.proofs.Laws.Keys.{left_of_lem}
@@ -22,7 +22,7 @@ three_of d (a ∷ b ∷ c ∷ e ∷ l) h = absurd (let k : length (a ∷ b ∷ c
 
 -- ---- each of three by its number
 abbrev left_of : Head → Bool → Head
-left_of h own = with_key h (if own then h.key else false)
+left_of h own = with_key h (when own then h.key else false)
 
 abbrev ByNumber : ℕ → List Head → Type 0
 ByNumber c l =
@@ -30,7 +30,7 @@ ByNumber c l =
     ≡ all_but keyless_head blank_head l c
 
 by_number : (x y z : Head) (c : ℕ) → ByNumber c (x ∷ y ∷ z ∷ [])
-unfolding if◌then◌else◌
+unfolding when◌then◌else◌
 by_number x y z zero = refl
 by_number x y z (suc zero) = refl
 by_number x y z (suc (suc zero)) = refl
@@ -46,8 +46,8 @@ pub three_left : (l : List Head) (c : ℕ) → length l ≡ 3
 three_left l c n = subst (ByNumber c) (three_of blank_head l n) (by_number _ _ _ c)
 
 -- ---- no key is pending
-none : (b x : Bool) → (if b then true else x) ≡ false → (b ≡ false) × (x ≡ false)
-unfolding if◌then◌else◌
+none : (b x : Bool) → (when b then true else x) ≡ false → (b ≡ false) × (x ≡ false)
+unfolding when◌then◌else◌
 none true x e = absurd (let z = false_not_true (sym e) in omega (arith, z))
 none false x e = (refl, e)
 
@@ -65,7 +65,7 @@ but_same l c n p q r =
 
 common_same : (k : Common) (c : ℕ) → k.key ≡ false → common_left k c ≡ k
 common_same k c e =
-    let key : (if eqb c 3 then k.key else false) ≡ k.key = pick_holds (λ (x : Bool). x ≡ k.key) (eqb c 3) (λ _. refl) (λ _. sym e) in
+    let key : (when eqb c 3 then k.key else false) ≡ k.key = pick_holds (λ (x : Bool). x ≡ k.key) (eqb c 3) (λ _. refl) (λ _. sym e) in
     λ i. record { be = k.be; mask = k.mask; key = key i }
 
 module _ (h : Heads) (three : length h.channels ≡ 3) (e : keyed_of h ≡ false) where

@@ -8,7 +8,7 @@ use Rattle.std.proofs.lemmas.List.{length-map, set-get_or}
 use Rattle.std.proofs.Math.ListN.{get_or-map}
 use Rattle.std.proofs.Math.Seq.{drop-drop}
 use Rattle.std.proofs.Math.Nat.{add-sub_cancel_left}
-use Rattle.laws.specs.Pick.{if◌then◌else◌}
+use Rattle.laws.specs.Pick.{when◌then◌else◌}
 use Rattle.laws.specs.Cases.{past}
 use Rattle.rules.specs.Numbers.{buffer_size, done}
 use Rattle.interrupt.specs.Interrupt.{be_after}
@@ -208,8 +208,8 @@ module _ (p : Part) (h : Heads) (t : Rows) (w : Holds p h t) where
         three = size_left p c ∙ w.three;
       }
 
-  where_holds : (b : Bool) (c : ℕ) → Holds (if b then forgotten p c else p) (if b then forgotten_heads h c else h) t
-  unfolding if◌then◌else◌
+  where_holds : (b : Bool) (c : ℕ) → Holds (when b then forgotten p c else p) (when b then forgotten_heads h c else h) t
+  unfolding when◌then◌else◌
   where_holds true c = but_holds c
   where_holds false c = w
 
@@ -379,12 +379,12 @@ module _ (h : Heads) (t : Rows) (edge : Edge) (w : part_in (gathered h t) ≡ tr
 
 -- an edge does nothing to a channel with TE 0
 edge_unmoved : (c : Channel) (edge : Edge) → c.head.regs.te ≡ false → triggered c edge ≡ on c (plain c.head)
-unfolding triggered edge_beat beaten if◌then◌else◌
+unfolding triggered edge_beat beaten when◌then◌else◌
 edge_unmoved c edge e = rw e
 
 -- nor to a part none of whose channels has TE 1
 pub unarmed_unmoved : (h : Heads) (t : Rows) (edge : Edge) → unarmed_of h ≡ true → trigger_step (gathered h t) edge ≡ told (gathered h t) done 0 quiet
-unfolding unarmed_of trigger_step be_after if◌then◌else◌
+unfolding unarmed_of trigger_step be_after when◌then◌else◌
 unarmed_unmoved h t edge e =
     let a = past (head_at h 0).regs.te _ e in
     let b = past (head_at h 1).regs.te _ a.1 in

@@ -8,7 +8,7 @@ use borrow.Author.Tests.{ltb-true, ltb-false, le-leb}
 use Rattle.std.proofs.Math.ListN.{length, length-drop}
 use Rattle.std.proofs.Math.Seq.{drop-drop, length-sets}
 use Rattle.laws.specs.Sets.{sets_append}
-use Rattle.laws.specs.Pick.{if◌then◌else◌}
+use Rattle.laws.specs.Pick.{when◌then◌else◌}
 use Rattle.steps.specs.declared.answer.PartAnswer.{PartAnswer}
 use Rattle.heads.specs.declared.Heads.{Heads}
 use Rattle.part.specs.declared.state.Part.{Part}
@@ -28,7 +28,7 @@ use Rattle.runner.proofs.Laws.Performing.{Performs, performed, performed-whole}
 
 -- ---- the next line of some bytes
 pub next_line : (line l : List ℕ) → first_lf l < length l → ended_lines line l ≡ (line ++ take (first_lf l) l) ∷ ended_lines [] (drop (first_lf l + 1) l)
-unfolding ended_lines if◌then◌else◌
+unfolding ended_lines when◌then◌else◌
 next_line line [] h = absurd (omega (arith, h))
 next_line line (b ∷ l) h = cases (eqb b 10) refl (λ i. next_line (line ++ (b ∷ [])) l i)
   where
@@ -43,7 +43,7 @@ next_line line (b ∷ l) h = cases (eqb b 10) refl (λ i. next_line (line ++ (b 
         rw (e, t, d) (f (omega (arith, rw e at h)) ∙ ap (λ (x : List ℕ). x ∷ ended_lines [] (drop (first_lf l + 1) l)) (append_assoc line (b ∷ []) (take (first_lf l) l)))
 
 pub next_rest : (line l : List ℕ) → first_lf l < length l → rest_of line l ≡ rest_of [] (drop (first_lf l + 1) l)
-unfolding rest_of if◌then◌else◌
+unfolding rest_of when◌then◌else◌
 next_rest line [] h = absurd (omega (arith, h))
 next_rest line (b ∷ l) h = cases (eqb b 10) refl (λ i. next_rest (line ++ (b ∷ [])) l i)
   where
@@ -56,7 +56,7 @@ next_rest line (b ∷ l) h = cases (eqb b 10) refl (λ i. next_rest (line ++ (b 
         rw (e, d) (f (omega (arith, rw e at h)))
 
 pub no_line-ends : (line l : List ℕ) → length l ≤ first_lf l → ended_lines line l ≡ []
-unfolding ended_lines if◌then◌else◌
+unfolding ended_lines when◌then◌else◌
 no_line-ends line [] h = refl
 no_line-ends line (b ∷ l) h = cases (eqb b 10) refl (λ i. no_line-ends (line ++ (b ∷ [])) l i)
   where
@@ -65,7 +65,7 @@ no_line-ends line (b ∷ l) h = cases (eqb b 10) refl (λ i. no_line-ends (line 
     cases false e f = rw e (f (omega (arith, rw e at h)))
 
 pub all_rest : (line l : List ℕ) → length l ≤ first_lf l → rest_of line l ≡ line ++ l
-unfolding rest_of if◌then◌else◌
+unfolding rest_of when◌then◌else◌
 all_rest line [] h = sym (append-nil line)
 all_rest line (b ∷ l) h = cases (eqb b 10) refl (λ i. all_rest (line ++ (b ∷ [])) l i)
   where
@@ -146,7 +146,7 @@ module _ (block : List ℕ) (s₀ : Course) (m₀ o₀ : List ℕ) (h : Heads) (
       → step' ≡ number_after step → int ≡ interrupt_of (gathered h' t')
       → Put o at (text_if (roomy (length o) at) (answer_line step' answer int)) at' o' → at' ≤ at + answer_room → from' ≡ end + 1 → end' ≡ line_end block from'
       → Going block s₀ m₀ o₀ h' t' m' o' step' from' at' end'
-  unfolding bytes after_all replies_to after_one reply_to text_if if◌then◌else◌
+  unfolding bytes after_all replies_to after_one reply_to text_if when◌then◌else◌
   going_on_lem l h' t' answer int m' o' step' at' from' end' goes read (d, memory) n i put fits f e =
       let p = w.part in
       let q = performed p m l in

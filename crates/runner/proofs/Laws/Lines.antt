@@ -8,7 +8,7 @@ use Rattle.std.proofs.Math.ListN.{length-drop}
 use Rattle.std.proofs.lemmas.List.{length-replicate, take-append-le}
 use Rattle.std.proofs.lemmas.List.Edits.{sets, sets-eq}
 use Rattle.std.proofs.Math.Seq.{drop-append_seam, take-append-add, take-append_seam, take-nil}
-use Rattle.laws.specs.Pick.{if◌then◌else◌}
+use Rattle.laws.specs.Pick.{when◌then◌else◌}
 use Rattle.laws.specs.Cases.{pick_holds}
 use Rattle.script.specs.Grammar.{line_room, line_of}
 use Rattle.script.proofs.Laws.Grammar.{first_bytes_lem}
@@ -37,14 +37,14 @@ module _ (block : List ℕ) (from : ℕ) where
 module _ (block : List ℕ) (from at : ℕ) (inside : at < length block) (same : line_end block from ≡ line_end block at) where
   -- an LF ends the line
   pub ends_here : get_or block at 0 ≡ 10 → at ≡ line_end block from
-  unfolding line_end if◌then◌else◌
+  unfolding line_end when◌then◌else◌
   ends_here t =
       let e : first_lf (drop at block) ≡ 0 = ap first_lf (drop-cons block at 0 inside) ∙ rw (eq-eqb _ _ t) in
       omega (arith, e, same)
 
   -- after any other byte it goes on
   pub goes_on : (get_or block at 0 ≡ 10 → ⊥) → (next : ℕ) → next ≡ at + 1 → line_end block from ≡ line_end block next
-  unfolding line_end if◌then◌else◌
+  unfolding line_end when◌then◌else◌
   goes_on t next e =
       let n = add-one at in
       let k : first_lf (drop at block) ≡ first_lf (drop next block) + 1 = ap first_lf (drop-cons block at 0 inside) ∙ rw (ne_eqb _ _ t, e, n) in

@@ -3,7 +3,7 @@ use Rattle.std.specs.Prelude.{ℕ, Bool, List, ◌≡◌}
 use Rattle.std.proofs.Math.Bool.{true, false}
 use Rattle.std.proofs.Math.Path.{refl, sym}
 use Rattle.std.proofs.Common.{◌∙◌, ap, subst}
-use Rattle.laws.specs.Pick.{if◌then◌else◌}
+use Rattle.laws.specs.Pick.{when◌then◌else◌}
 use Rattle.steps.specs.declared.map.Op.{Op}
 use Rattle.steps.specs.declared.map.Target.{Target}
 use Rattle.steps.specs.declared.map.Target.TheVariants.{One as OneTarget, All as AllTarget}
@@ -66,7 +66,7 @@ module _ (p : Part) (m : List ℕ) where
 
 module _ (p : Part) (m : List ℕ) where
   aimed-performed : (l : Line) → Whole p m → aimed (left_by l p) m (aim_of l) ≡ performed p m l
-  unfolding part_served forgetting if◌then◌else◌
+  unfolding part_served forgetting when◌then◌else◌
   aimed-performed (Readable s) w = aimed_target (forgetting (target_of s) p) m (target_of s) ∙ sym (step_accepted p m s (whole-accepts p m w))
   aimed-performed Unreadable w = refl
 
@@ -109,8 +109,8 @@ module _ (p : Part) (h : Heads) (t : Rows) (v : Holds p h t) (l : Line) where
   pub asked-left : (a : Aim) → a ≡ aim_of l → (x : Target) → x ≡ aim_target a → (g : Heads) → g ≡ heads_left x h → Holds (left_by l p) g t
   asked-left a i x j g e = let k : x ≡ line_target l = j ∙ ap aim_target i ∙ aim_target_lem l in rw (e, k) (left_holds p h t v (line_target l))
 
-  no_write : (op : Op) (c : ℕ) (b : Bool) → op_writes op ≡ b → (if b then keyed_of h else false) ≡ false → forgetting (OneTarget op c) p ≡ p
-  unfolding forgetting if◌then◌else◌
+  no_write : (op : Op) (c : ℕ) (b : Bool) → op_writes op ≡ b → (when b then keyed_of h else false) ≡ false → forgetting (OneTarget op c) p ≡ p
+  unfolding forgetting when◌then◌else◌
   no_write op c true w e = none_left p h t v e (OneTarget op c)
   no_write op c false w e = rw w
 

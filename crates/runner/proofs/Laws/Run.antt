@@ -2,7 +2,7 @@
 use Rattle.std.specs.Prelude.{ℕ, ◌<◌, false, ◌≡◌}
 use Rattle.std.proofs.Math.Path.{refl}
 use Rattle.std.proofs.Common.{arith}
-use Rattle.laws.specs.Pick.{if◌then◌else◌}
+use Rattle.laws.specs.Pick.{when◌then◌else◌}
 use Rattle.steps.specs.Facts.{InPart}
 use Rattle.part.specs.Step.{all_served, all_stored, target_served, target_stored, forgetting, part_served, part_stored}
 use Rattle.mixes.specs.Mix.{OfSome}
@@ -56,12 +56,12 @@ module _ (s : State) (g : Accepted s) where
   line_keeps Unreadable = g
 
   line_after : (l : Line) → Served l
-  unfolding part_served part_stored target_served target_stored forgetting all_served all_stored if◌then◌else◌
+  unfolding part_served part_stored target_served target_stored forgetting all_served all_stored when◌then◌else◌
   line_after (Readable a) = part_follows.after s a g
   line_after Unreadable = refl
 
   line_actions : (l : Line) → (line_answer s l).actions ≡ (part_served s.part s.memory (line_target l)).answer.actions
-  unfolding part_served target_served forgetting all_served if◌then◌else◌
+  unfolding part_served target_served forgetting all_served when◌then◌else◌
   line_actions (Readable a) = part_follows.actions s a g
   line_actions Unreadable = refl
 

@@ -1,7 +1,7 @@
 -- `part::rows::put_ctrl` meets its contract: a reset, or a write with the key that it leaves.
 use mathlib.Core.Bool.{false, true}
 use mathlib.Core.Path.{◌∙◌, ◌≡◌, refl, sym}
-use Rattle.laws.specs.Pick.{if◌then◌else◌}
+use Rattle.laws.specs.Pick.{when◌then◌else◌}
 use Rattle.rules.specs.Access.{resets_of, key_after}
 use Rattle.part.specs.declared.state.Part.{Part}
 use Rattle.part.specs.declared.state.PartStepped.{PartStepped}
@@ -13,14 +13,14 @@ use Rattle.part.proofs.Laws.Rows.{tells_gives}
 use Rattle.part.proofs.rows.put_ctrl.Goals as goal
 
 pub returns-then-resets : goal.returns-then-resets
-unfolding ctrl_put ctrl_store if◌then◌else◌
+unfolding ctrl_put ctrl_store when◌then◌else◌
 returns-then-resets c = let a = c.args in
     let t : resets_of (ctrlpreset_of a.reg) a.v a.heads.common.key ≡ true =
     rw (sym c.is_ctrlpreset-preset.ensures) (sym c.resets.ensures ∙ c.if-resets.true) in
     rw (t, ← c.device.ensures) c.reset.ensures
 
 pub returns : goal.returns
-unfolding ctrl_put ctrl_store if◌then◌else◌
+unfolding ctrl_put ctrl_store when◌then◌else◌
 returns c = let a = c.args in
     let t : resets_of (ctrlpreset_of a.reg) a.v a.heads.common.key ≡ false =
     rw (sym c.is_ctrlpreset-preset.ensures) (sym c.resets.ensures ∙ c.if-resets.false) in

@@ -1,7 +1,6 @@
 -- `runner::answering::next_number` meets its contract.
 use Rattle.runner.specs.Text.{number_after}
 use Rattle.laws.specs.Cases.{cases}
-use borrow.Author.Rules.{rules}
 use Rattle.runner.proofs.answering.next_number.Goals as goal
 
 pub returns-then-step-eq18446744073709551615 : goal.returns-then-step-eq18446744073709551615

@@ -1,7 +1,6 @@
 -- `runner::answering::writes_keyed` meets its contract.
 use mathlib.Core.Path.{refl, sym, ◌∙◌}
 use Rattle.laws.specs.Cases.{pick_true, pick-false}
-use borrow.Author.Rules.{rules}
 use Rattle.runner.proofs.answering.writes_keyed.Goals as goal
 
 pub returns-then-op_writes : goal.returns-then-op_writes

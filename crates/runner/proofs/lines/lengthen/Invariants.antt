@@ -1,12 +1,8 @@
 -- `runner::lines::lengthen` meets its contract: what is left of the bytes lengthens what has come to be.
-use Prim.Native.Nat.{◌-◌, ◌<◌, ◌≤◌}
+use Prim.Native.Nat.{◌-◌, ◌≤◌}
 use Rattle.runner.specs.Lines.{lengthened}
-use borrow.Author.Rules.{rules}
-use lib.ListN.{drop, drop_of_length-le, length}
-use lib.Seq.{drop-cons}
-use mathlib.Core.Path.{◌∙◌, ◌≡◌, ap, refl, sym}
-use native.Mathlib.Numerals.{add-one}
-use native.Mathlib.Omega.{arith}
+use lib.ListN.{drop, length}
+use mathlib.Core.Path.{◌≡◌}
 use Rattle.runner.proofs.lines.lengthen.Given as goal
 
 abbrev pub invariant-loop-i : goal.invariant-loop-i

@@ -2,7 +2,6 @@
 use Rattle.runner.specs.Lines.{with_byte}
 use Rattle.script.specs.Grammar.{line_room}
 use Rattle.laws.specs.Cases.{cases}
-use borrow.Author.Rules.{rules}
 use Rattle.runner.proofs.lines.with_byte.Goals as goal
 
 pub returns-then-n-lt-LINE_ROOM : goal.returns-then-n-lt-LINE_ROOM

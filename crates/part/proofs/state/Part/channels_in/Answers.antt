@@ -2,7 +2,7 @@
 use Prim.Native.Nat.{ℕ, suc, ◌<◌, ◌≤◌}
 use Rattle.channel.specs.Range.{in_range}
 use Rattle.channel.specs.declared.state.Channel.{Channel}
-use Rattle.laws.specs.Pick.{if◌then◌else◌}
+use Rattle.laws.specs.Pick.{when◌then◌else◌}
 use Rattle.part.specs.State.{blank}
 use Rattle.part.specs.Step.{channels_in}
 use lib.ListN.{drop, drop_of_length-le, get_or, length}
@@ -20,7 +20,7 @@ begins all i n l = let h : i < length all = omega arith in ap channels_in (drop-
 
 -- it is not in range
 pub returns-then-not-in_range : goal.returns-then-not-in_range
-unfolding channels_in if◌then◌else◌
+unfolding channels_in when◌then◌else◌
 returns-then-not-in_range c =
     let all = c.args.self.channels in
     let t : in_range (get_or all c.loop-i.i blank) ≡ false = sym c.in_range.ensures ∙ c.if-not-in_range.true in
@@ -28,7 +28,7 @@ returns-then-not-in_range c =
 
 -- it is: what follows decides
 pub loop-i-preserved : goal.loop-i-preserved
-unfolding channels_in if◌then◌else◌
+unfolding channels_in when◌then◌else◌
 loop-i-preserved c =
     let all = c.args.self.channels in
     let t : in_range (get_or all c.loop-i.i blank) ≡ true = sym c.in_range.ensures ∙ c.if-not-in_range.false in
