@@ -7,9 +7,9 @@ use Rattle.promises.specs.Promise.{Once, no_second, both}
 pub put_once : (out : List ℕ) (at : ℕ) (text : List ℕ) → Once (ℕ × List ℕ) (λ (r, out'). Put out at text r out')
 put_once out at text = no_second (λ o h. both h.place h.bytes)
 
-pub write-header_once : (out : List ℕ) (at : ℕ)
+pub write_header_once : (out : List ℕ) (at : ℕ)
     → Once (ℕ × List ℕ) (λ (r, out'). Put out at (text_if (roomy (length out) at) header) r out')
-write-header_once out at = no_second (λ o h. both h.place h.bytes)
+write_header_once out at = no_second (λ o h. both h.place h.bytes)
 
 pub write_answer_once : (step : ℕ) (reply : PartAnswer) (int : Bool) (out : List ℕ) (at : ℕ)
     → Once (ℕ × List ℕ) (λ (r, out'). Put out at (text_if (roomy (length out) at) (answer_line step reply int)) r out' × (r ≤ at + answer_room))

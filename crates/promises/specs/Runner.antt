@@ -34,9 +34,9 @@ lengthen_once line more = no_second (λ r h. h)
 pub kept_once : (len : ℕ) → Once ℕ (λ r. (r ≡ kept_of len) × (r ≤ line_room))
 kept_once len = no_second (λ r h. h.0)
 
-pub put-start_once : (bytes : List ℕ) (n : ℕ) (block : List ℕ)
+pub put_start_once : (bytes : List ℕ) (n : ℕ) (block : List ℕ)
     → Once (ℕ × List ℕ) (λ (r, block'). (r ≡ line_room - n) × (block' ≡ sets block r (take n bytes)) × (length (take n bytes) ≡ n))
-put-start_once bytes n block = no_second (λ o h. both h.0 (h.1 ∙ ap (λ (at : ℕ). sets block at (take n bytes)) h.0))
+put_start_once bytes n block = no_second (λ o h. both h.0 (h.1 ∙ ap (λ (at : ℕ). sets block at (take n bytes)) h.0))
 
 pub line_end_once : (block : List ℕ) (from : ℕ) → Once ℕ (λ r. r ≡ line_end block from)
 line_end_once block from = no_second (λ r h. h)
