@@ -87,7 +87,7 @@ script_does s [] h = refl
 script_does s (w ∷ l) (h, k) =
     ap (ends the_script s) (script_next w (script_of l) h)
     ∙ ap (λ (x : Line). ends the_script (after_line s x) (lines_of (script_of l))) (read_write w h)
-    ∙ script_does _ l k
+    ∙ script_does (after_line s (Reads (Write w.at w.value))) l k
 
 -- ---- texts of writes, put one after the other
 pub script_append : (k l : List Typed) → script_of (k ++ l) ≡ script_of k ++ script_of l
