@@ -1,0 +1,21 @@
+-- `bench::finish` meets its contract: an LF is put behind the last line, if that has a byte.
+use Rattle.std.proofs.Common.{ℕ, List, take, drop, ◌∙◌, ap, arith, rules}
+use Rattle.bench.proofs.Laws.Blocks.{last_heard, silent_closed}
+use Rattle.runner.proofs.Laws.Lines.{put_one}
+use Rattle.script.specs.Grammar.{line_room}
+use Rattle.bench.proofs.finish.Goals as goal
+
+pub put-requires : goal.put-requires
+unfolding line_room
+put-requires c = search rules
+
+-- the last line has a byte
+pub returns-then-line-gt0 : goal.returns-then-line-gt0
+unfolding line_room
+returns-then-line-gt0 c =
+    let behind = ap (λ (x : List ℕ). take 1 (drop line_room x)) c.put.ensures.bytes ∙ put_one c.args.block.now 10 c.requires.1 in
+    last_heard c.args.s _ _ _ _ _ behind c.answer_from.ensures.block_unchanged.1 (omega (arith, c.if-line-gt0.true)) c.answer_from.ensures.heard
+
+-- or none
+pub returns : goal.returns
+returns c = silent_closed c.args.s _ _ _ c.silent.ensures (omega (arith, c.if-line-gt0.false)) c.requires.0
