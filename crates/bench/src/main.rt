@@ -97,7 +97,8 @@ fn finish(s: Seat, block: &mut [u8], mem: &mut [u8], out: &mut [u8]) -> Seat
     ensures { Closed (sitting_of s mem.old) result mem.new out.new }
 {
     let line = s.line;
-    if 0 < line.len {
+    let begun = 0 < line.len;
+    if begun {
         answers::put(block, LINE_ROOM, b"\n");
         return answer_from(s, block, 1, mem, out);
     }

@@ -10,12 +10,12 @@ unfolding line_room
 put-requires c = search rules
 
 -- the last line has a byte
-pub returns-then-line-gt0 : goal.returns-then-line-gt0
+pub returns-then-begun : goal.returns-then-begun
 unfolding line_room
-returns-then-line-gt0 c =
+returns-then-begun c =
     let behind = ap (λ (x : List ℕ). take 1 (drop line_room x)) c.put.ensures.bytes ∙ put_one c.args.block.now 10 c.requires.1 in
-    last_heard c.args.s _ _ _ _ _ behind c.answer_from.ensures.block_unchanged.1 (omega (arith, c.if-line-gt0.true)) c.answer_from.ensures.heard
+    last_heard c.args.s _ _ _ _ _ behind c.answer_from.ensures.block_unchanged.1 (omega (arith, c.if-begun.true)) c.answer_from.ensures.heard
 
 -- or none
 pub returns : goal.returns
-returns c = silent_closed c.args.s _ _ _ c.silent.ensures (omega (arith, c.if-line-gt0.false)) c.requires.0
+returns c = silent_closed c.args.s _ _ _ c.silent.ensures (omega (arith, c.if-begun.false)) c.requires.0
