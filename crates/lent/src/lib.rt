@@ -8,7 +8,7 @@ use channel::{Channel, Stepped};
 use head::Answer;
 use steps::Op;
 
-// The two fields of what a step gives back, as calls: so the proof of `step_lent` names no field of the record.
+// The two fields of what a step gives back, as calls.
 fn channel_of(s: Stepped) -> Channel
     ensures { result ≡ s.channel }
 {
