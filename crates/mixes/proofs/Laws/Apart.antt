@@ -53,15 +53,6 @@ module _ {S Step Ans : Type 0} (M : Machine S Step Ans) (good : S → Type 0) (m
     answers = λ c. (p s g).answers c ∙ (q s g).answers c;
   }
 
-  rel_cons : (a : Step) (l r : List Step) → may a → Rel l r → Rel (a ∷ l) (a ∷ r)
-  unfolding Rel
-  rel_cons a l r h p s g =
-      let q = p (M.after s a) (apart.kept s a g h) in
-      record {
-        state = q.state;
-        answers = λ c. ap (keep (eqb (M.owner a) c) (a, M.answer s a)) (q.answers c);
-      }
-
   rel_swap : (a b : Step) (l : List Step) → may a → may b → (M.owner a ≡ M.owner b → ⊥) → Rel (a ∷ b ∷ l) (b ∷ a ∷ l)
   unfolding Rel
   rel_swap a b l ha hb ne s g =
@@ -74,6 +65,15 @@ module _ {S Step Ans : Type 0} (M : Machine S Step Ans) (good : S → Type 0) (m
             rw (e, ea, eb)
             (keep_swap (eqb (M.owner a) c) (eqb (M.owner b) c) (a, M.answer s a) (b, M.answer s b) (only M c (log M (M.after (M.after s b) a) l))
             (λ p q. ne (eqb-true _ _ p ∙ sym (eqb-true _ _ q))));
+      }
+
+  rel_cons : (a : Step) (l r : List Step) → may a → Rel l r → Rel (a ∷ l) (a ∷ r)
+  unfolding Rel
+  rel_cons a l r h p s g =
+      let q = p (M.after s a) (apart.kept s a g h) in
+      record {
+        state = q.state;
+        answers = λ c. ap (keep (eqb (M.owner a) c) (a, M.answer s a)) (q.answers c);
       }
 
   -- a step moves back past steps of other channels

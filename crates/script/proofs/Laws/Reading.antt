@@ -21,13 +21,11 @@ fit_all f l i e p h =
     let k : length l ≤ i = omega arith in
     sym (p ∙ rw (drop_of_length-le f h, drop_of_length-le l k))
 
-module _ (f l : List ℕ) (i : ℕ) (r b : Bool) (e : length f ≡ length l) (p : r ≡ in_form (drop i f) (drop i l)) (h : i < length f)
+module _ (f l : List ℕ) (i : ℕ) (r b : Bool) (p : r ≡ in_form (drop i f) (drop i l)) (h : i < length f) (k : i < length l)
     (q : b ≡ suiting (get_or f i 0) (get_or l i 0)) where
   opened : r ≡ (when b then in_form (drop (i + 1) f) (drop (i + 1) l) else false)
   unfolding in_form
-  opened =
-      let k : i < length l = omega arith in
-      p ∙ rw (drop-cons f i 0 h, drop-cons l i 0 k, ← q, add-one)
+  opened = p ∙ rw (drop-cons f i 0 h, drop-cons l i 0 k, ← q, add-one)
 
   pub fit-more : b ≡ true → r ≡ in_form (drop (i + 1) f) (drop (i + 1) l)
   unfolding when◌then◌else◌
