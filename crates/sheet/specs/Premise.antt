@@ -5,7 +5,6 @@ use Rattle.steps.specs.declared.map.Step.{Step}
 use Rattle.steps.specs.declared.map.Step.TheVariants.{Write}
 use Rattle.part.specs.State.{chan}
 use Rattle.works.specs.State.{State}
-use Rattle.independent.specs.Statement.{the_part as part}
 
 abbrev pub resetting : List Step
 resetting = Write 0xC2 0x80 ∷ Write 0xCF 0xA5 ∷ Write 0xCF 0x5A ∷ []
