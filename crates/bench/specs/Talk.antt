@@ -1,5 +1,5 @@
 -- What the program reads and what it hands to `write`, piece by piece; put together they are a script and its output (`talk_output`, proofs/Laws/Talk.antt).
-use Rattle.std.specs.Prelude.{ℕ, ◌≤◌, Bool, false, List, [], ◌++◌, ◌≡◌, ltb, length, take}
+use Rattle.std.specs.Prelude.{ℕ, ◌≤◌, Bool, false, List, [], ◌++◌, ◌≡◌, ltb, length, take, Result, Ok, Err}
 use Rattle.part.specs.Facts.{Whole}
 use Rattle.answers.specs.Answer.{header}
 use Rattle.runner.specs.declared.lines.Start.{Start}
@@ -8,8 +8,10 @@ use Rattle.runner.specs.Text.{Sitting, fed, said, last_said, opening}
 use Rattle.runner.specs.Feeding.{desk_of, shortened}
 use Rattle.bench.specs.declared.Seat.{Seat}
 use Rattle.bench.specs.declared.Bench.{Bench}
-use Rattle.bench.specs.declared.How.{How}
-use Rattle.bench.specs.declared.How.TheVariants.{On, Ended, Unread, Unwritten}
+use Rattle.bench.specs.declared.Next.{Next}
+use Rattle.bench.specs.declared.Next.TheVariants.{On, Ended}
+use Rattle.bench.specs.declared.Failed.{Failed}
+use Rattle.bench.specs.declared.Failed.TheVariants.{Unread, Unwritten}
 
 -- the bytes of the block that is read into
 abbrev pub block_size : ℕ
@@ -50,15 +52,14 @@ abbrev pub silenced : Seat → Seat
 silenced s = record { part = s.part; step = s.step; line = s.line; at = 0 }
 
 -- ---- how the program goes on: as meant, unless a write failed
-pub data Written (next how : How) : Type 0 where
-  taken : how ≡ next → Written next how
-  lost : how ≡ Unwritten → Written next how
+pub data Written (next : Next) (how : Result Next Failed) : Type 0 where
+  taken : how ≡ Ok next → Written next how
+  lost : how ≡ Err Unwritten → Written next how
 
-abbrev pub going_on : ℕ → How → Bool
-going_on turns On = ltb 0 turns
-going_on turns Ended = false
-going_on turns Unread = false
-going_on turns Unwritten = false
+abbrev pub going_on : ℕ → Result Next Failed → Bool
+going_on turns (Ok On) = ltb 0 turns
+going_on turns (Ok Ended) = false
+going_on turns (Err e) = false
 
 -- ---- the header, and a turn: what `read` gave, and the text that was handed to `write`
 
@@ -70,16 +71,16 @@ pub record Begun (b : Bench) (m text : List ℕ) : Type 0 where
 pub data Turned (s : Seat) (m : List ℕ) (b : Bench) (n came text : List ℕ) : Type 0 where
   read : Written On b.how → sitting_of b.seat n ≡ shortened (fed (sitting_of s m) came) → text ≡ said (sitting_of s m) came → Turned s m b n came text
   ended : Written Ended b.how → came ≡ [] → text ≡ last_said (sitting_of s m) → Turned s m b n came text
-  unread : b.how ≡ Unread → came ≡ [] → text ≡ [] → Turned s m b n came text
+  unread : b.how ≡ Err Unread → came ≡ [] → text ≡ [] → Turned s m b n came text
 
 -- ---- all turns up to now: all that was read, and all that was handed to `write`
-pub data Talk : Seat → How → List ℕ → List ℕ → List ℕ → Type 0 where
+pub data Talk : Seat → Result Next Failed → List ℕ → List ℕ → List ℕ → Type 0 where
   begun : (b : Bench) (m text : List ℕ) → Begun b m text → Talk b.seat b.how m [] text
-  more : (s : Seat) (how : How) (m input output : List ℕ) (b : Bench) (n came text : List ℕ) → Talk s how m input output → how ≡ On → Turned s m b n came text
+  more : (s : Seat) (how : Result Next Failed) (m input output : List ℕ) (b : Bench) (n came text : List ℕ) → Talk s how m input output → how ≡ Ok On → Turned s m b n came text
       → Talk b.seat b.how n (input ++ came) (output ++ text)
 
 -- some such talk
-pub record Talks (s : Seat) (how : How) (m : List ℕ) : Type 0 where
+pub record Talks (s : Seat) (how : Result Next Failed) (m : List ℕ) : Type 0 where
   pub input : List ℕ
   pub output : List ℕ
   pub talk : Talk s how m input output

@@ -12,6 +12,7 @@ use part::Part;
 use rules::{Device, MEMORY};
 use runner::{Course, Start};
 use script::LINE_ROOM;
+use std::fmt;
 use std::io::{Read, Write};
 
 // The bytes of the block that is read into (`block_size`).
@@ -29,13 +30,27 @@ struct Seat {
     at: usize,
 }
 
-// How the program goes on: another read, or it stops since the input has ended, a read failed or a write failed.
+// How the program goes on: another read, or it stops since the input has ended.
 #[derive(Clone, Copy)]
-enum How {
+enum Next {
     On,
     Ended,
+}
+
+// What stops it before.
+#[derive(Clone, Copy)]
+enum Failed {
     Unread,
     Unwritten,
+}
+
+impl fmt::Display for Failed {
+    fn fmt<W: fmt::Write>(&self, f: &mut fmt::Formatter<W>) -> fmt::Result {
+        f.write_str(match self {
+            Failed::Unread => "standard input could not be read",
+            Failed::Unwritten => "standard output could not be written",
+        })
+    }
 }
 
 // What a turn leaves: where the program stands, how many bytes were read, and how it goes on.
@@ -43,7 +58,7 @@ enum How {
 struct Bench {
     seat: Seat,
     came: usize,
-    how: How,
+    how: Result<Next, Failed>,
 }
 
 // ---- the bytes of a block
@@ -53,72 +68,69 @@ fn answer_block(s: Seat, block: &[u8], mem: &mut [u8], out: &mut [u8]) -> Seat
     requires { Ready s mem.old × (answer_room * length block.now ≤ length out.old) }
     ensures { Heard (bare_of s mem.old) block.now result mem.new out.new }
 {
-    let part = s.part;
     let course = Course {
-        part,
+        part: s.part,
         step: s.step,
         from: 0,
         at: 0,
     };
     let r = runner::answer_lines(course, block, mem, out);
-    let after = r.part;
-    let from = r.from;
     Seat {
-        part: after,
+        part: r.part,
         step: r.step,
-        line: runner::lengthen(runner::no_line(), &block[from..]),
+        line: runner::lengthen(runner::no_line(), &block[r.from..]),
         at: r.at,
     }
 }
 
 // Answers the line that was begun and n bytes more, which the block has from place LINE_ROOM on.
+#[tactic(auto, unfolding(script::specs::Grammar::line_room))]
 fn answer_from(s: Seat, block: &mut [u8], n: usize, mem: &mut [u8], out: &mut [u8]) -> Seat
     requires { Ready s mem.old × (line_room + n ≤ length block.old) × (answer_room * length block.old ≤ length out.old) }
     ensures heard { Heard (sitting_of s mem.old) (take n (drop line_room block.old)) result mem.new out.new }
     ensures block_unchanged { (drop line_room block.new ≡ drop line_room block.old) × Sized s.line }
 {
-    let line = s.line;
-    let bytes = line.bytes;
-    let at = runner::put_start(bytes, runner::kept(line.len), block);
+    let at = runner::put_start(s.line.bytes, runner::kept(s.line.len), block);
     answer_block(s, &block[at..LINE_ROOM + n], mem, out)
 }
 
 // No text.
-fn silent(mut s: Seat) -> Seat
+fn silent(s: Seat) -> Seat
     ensures { result ≡ silenced s }
 {
-    s.at = 0;
-    s
+    Seat { at: 0, ..s }
 }
 
 // The input has ended: what follows the last LF is a line if it has a byte.
+#[tactic(auto, unfolding(script::specs::Grammar::line_room))]
 fn finish(s: Seat, block: &mut [u8], mem: &mut [u8], out: &mut [u8]) -> Seat
     requires { Ready s mem.old × (line_room + 1 ≤ length block.old) × (answer_room * length block.old ≤ length out.old) }
     ensures { Closed (sitting_of s mem.old) result mem.new out.new }
 {
-    let line = s.line;
-    let begun = 0 < line.len;
+    let begun = 0 < s.line.len;
     if begun {
         answers::put(block, LINE_ROOM, b"\n");
-        return answer_from(s, block, 1, mem, out);
+        answer_from(s, block, 1, mem, out)
+    } else {
+        silent(s)
     }
-    silent(s)
 }
 
 // ---- reads and writes
 
 // Writes the first n bytes, and goes on as meant unless that failed.
-fn written<W: Write>(to: &mut W, out: &[u8], n: usize, next: How) -> How
+fn written<W: Write>(to: &mut W, out: &[u8], n: usize, next: Next) -> Result<Next, Failed>
     requires { n ≤ length out.now }
     ensures { Written next result }
 {
-    if to.write_all(&out[..n]).is_ok() {
-        return next;
+    match to.write_all(&out[..n]) {
+        Ok(()) => Ok(next),
+        Err(_) => Err(Failed::Unwritten),
     }
-    How::Unwritten
 }
 
 // One read, of what is there, and the answers to its lines.
+#[tactic(auto, unfolding(script::specs::Grammar::line_room))]
 fn turn<R: Read, W: Write>(
     from: &mut R,
     to: &mut W,
@@ -135,7 +147,7 @@ fn turn<R: Read, W: Write>(
         return Bench {
             seat: silent(s),
             came: 0,
-            how: How::Unread,
+            how: Err(Failed::Unread),
         };
     };
     if n == 0 {
@@ -143,14 +155,14 @@ fn turn<R: Read, W: Write>(
         return Bench {
             seat: last,
             came: 0,
-            how: written(to, out, last.at, How::Ended),
+            how: written(to, out, last.at, Next::Ended),
         };
     }
     let next = answer_from(s, block, n, mem, out);
     Bench {
         seat: next,
         came: n,
-        how: written(to, out, next.at, How::On),
+        how: written(to, out, next.at, Next::On),
     }
 }
 
@@ -168,37 +180,18 @@ fn begin<W: Write>(to: &mut W, out: &mut [u8]) -> Bench
             at: n,
         },
         came: 0,
-        how: written(to, out, n, How::On),
+        how: written(to, out, n, Next::On),
     }
 }
 
 // A proved loop has to end, and nothing says that the input does: it counts its turns down, from a number that no run uses up.
-fn goes_on(turns: u64, how: How) -> bool
+fn goes_on(turns: u64, how: Result<Next, Failed>) -> bool
     ensures { result ≡ going_on turns how }
 {
-    match how {
-        How::On => 0 < turns,
-        How::Ended => false,
-        How::Unread => false,
-        How::Unwritten => false,
-    }
+    matches!(how, Ok(Next::On)) && 0 < turns
 }
 
-// Says what failed, and after which step.
-fn complain(err: &impl Eprint, what: &str, step: u64) {
-    let _ = eprintln!(err; "bench: {what} after step {step}");
-}
-
-// What is said on standard error is a failure to ./bench. The answers up to the step are written.
-fn report(err: &impl Eprint, how: How, step: u64) {
-    match how {
-        How::On => (),
-        How::Ended => (),
-        How::Unread => complain(err, "standard input could not be read", step),
-        How::Unwritten => complain(err, "standard output could not be written", step),
-    }
-}
-
+// The block and the output: of arrays written out in `main` the prover sees each byte, and does not end.
 fn input() -> [u8; BLOCK]
     ensures { length result ≡ block_size }
 {
@@ -217,27 +210,24 @@ fn main(rt: HostRuntime) {
     let mut block = input();
     let mut out = output();
     let mut mem = [0u8; MEMORY];
-    let first = begin(&mut stdout, &mut out);
-    let mut seat = first.seat;
-    let mut how = first.how;
+    let mut b = begin(&mut stdout, &mut out);
     // the last step before the turn: its answer is written
     let mut safe = 0;
     let mut turns = u64::MAX;
-    while goes_on(turns, how) {
-        safe = seat.step;
-        let b = turn(
+    while goes_on(turns, b.how) {
+        safe = b.seat.step;
+        b = turn(
             &mut stdin,
             &mut stdout,
-            seat,
+            b.seat,
             &mut block,
             &mut mem,
             &mut out,
         );
-        let next = b.seat;
-        seat = next;
-        let then = b.how;
-        how = then;
         turns -= 1;
     }
-    report(&rt, how, safe);
+    // what is said on standard error is a failure to ./bench; the answers up to the step are written
+    if let Err(e) = b.how {
+        let _ = eprintln!(rt; "bench: {e} after step {safe}");
+    }
 }

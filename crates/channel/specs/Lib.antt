@@ -1,5 +1,4 @@
 pub mod State
-pub mod Lent
 pub mod Range
 pub mod Wires
 pub mod Access

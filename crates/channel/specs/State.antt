@@ -3,9 +3,9 @@ use Rattle.std.specs.Prelude.{ℕ, List, eqb, get_or, replicate}
 use Rattle.laws.specs.Pick.{when◌then◌else◌}
 use Rattle.rules.specs.Numbers.{buffer_size, done}
 use Rattle.rules.specs.declared.parts.Straps.{Straps}
+use Rattle.head.specs.declared.state.Answer.{Answer}
 use Rattle.head.specs.declared.state.Head.{Head}
-use Rattle.head.specs.declared.state.Headed.{Headed}
-use Rattle.head.specs.State.{fresh_head, refused}
+use Rattle.head.specs.State.{Headed, fresh_head, refused}
 use Rattle.channel.specs.declared.state.Channel.{Channel}
 use Rattle.channel.specs.declared.state.Stepped.{Stepped}
 
@@ -37,6 +37,10 @@ fresh x = record { head = fresh_head x; slatable = replicate 64 0; tranconfig = 
 -- ---- what a step answers, where only the head changes: what the head comes to, of a channel with these tables
 abbrev pub on : Channel → Headed → Stepped
 on c r = record { channel = with_head c r.head; answer = r.answer }
+
+-- a step that comes to this channel and answers this
+abbrev pub stepped : Channel → Answer → Stepped
+stepped c a = record { channel = c; answer = a }
 
 -- ---- what a step leaves: the record with its answer, and the channel's bytes
 pub record Served : Type 0 where

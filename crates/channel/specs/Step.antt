@@ -1,8 +1,7 @@
 -- One step of a single channel: the number that refuses it, or the write, the read or the event.
-use Rattle.std.specs.Prelude.{ℕ, Bool, List, eqb, ltb, length}
+use Rattle.std.specs.Prelude.{ℕ, Bool, List, Option, Some, None, eqb, ltb, length}
 use Rattle.laws.specs.Pick.{when◌then◌else◌}
-use Rattle.rules.specs.declared.registers.Place.{Place}
-use Rattle.rules.specs.declared.registers.Place.TheVariants.{Here, Elsewhere}
+use Rattle.rules.specs.declared.registers.Register.{Register}
 use Rattle.rules.specs.Numbers.{buffer_size, done, nowhere, out_of_range}
 use Rattle.rules.specs.Registers.{place_of}
 use Rattle.rules.specs.declared.wires.Event.{Event}
@@ -18,13 +17,13 @@ use Rattle.channel.specs.Access.{put_of, read_of}
 use Rattle.channel.specs.Wires.{turned}
 
 -- no. 1: an address that isn't this channel's; it leaves the key
-unfoldable pub write_at : Channel → List ℕ → Place → ℕ → Served
-write_at c m (Here reg) v = put_of c m reg v
-write_at c m Elsewhere v = leaving m (on c (refused c.head nowhere))
+unfoldable pub write_at : Channel → List ℕ → Option Register → ℕ → Served
+write_at c m (Some reg) v = put_of c m reg v
+write_at c m None v = leaving m (on c (refused c.head nowhere))
 
-unfoldable pub read_at : Channel → List ℕ → Place → Served
-read_at c m (Here reg) = read_of c m reg
-read_at c m Elsewhere = leaving m (on c (refused c.head nowhere))
+unfoldable pub read_at : Channel → List ℕ → Option Register → Served
+read_at c m (Some reg) = read_of c m reg
+read_at c m None = leaving m (on c (refused c.head nowhere))
 
 -- no. 1: channel above 2
 unfoldable pub event_at : Channel → List ℕ → ℕ → Event → Served

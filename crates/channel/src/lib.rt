@@ -1,4 +1,4 @@
-// One channel, Fm+ or UFm: its record, and the step over it.
+// One channel, Fm+ or UFm: its record, and its step.
 #![tactic(auto)]
 
 mod access;
@@ -8,5 +8,4 @@ mod step;
 mod wires;
 
 pub use state::{Channel, Stepped};
-pub use step::{range_number, serve_lent};
-pub use wires::trigger_lent;
+pub use step::range_number;

@@ -5,24 +5,17 @@ ghost use Rattle.channel.specs.Range.{in_range};
 use crate::state::Channel;
 
 impl Channel {
-    pub fn in_range(self) -> bool
-        ensures { result ≡ in_range self }
+    #[tactic(auto, using(laws::specs::Cases::cases, crate::proofs::Laws::Step::ranged), unfolding(crate::specs::Range::in_range))]
+    pub fn in_range(&self) -> bool
+        ensures { result ≡ in_range self.now }
     {
-        let h = self.head;
-        let w = h.walk;
-        let phase = w.phase;
-        let straps = h.straps;
-        let kind = straps.kind;
-        if h.in_range(self.tranconfig[0]) {
-            bounds::frame_in(
-                kind,
-                phase,
+        self.head.in_range(self.tranconfig[0])
+            && bounds::frame_in(
+                self.head.kind(),
+                self.head.walk.phase,
                 &self.slatable,
                 &self.tranconfig,
                 &self.bytecount,
             )
-        } else {
-            false
-        }
     }
 }

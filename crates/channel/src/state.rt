@@ -4,10 +4,10 @@ ghost use Rattle.head.specs.State.{refused};
 ghost use Rattle.channel.specs.State.{fresh, on};
 
 use head::{Answer, Head};
-use rules::{Action, Straps};
+use rules::Straps;
 
 // A channel: its head, and its tables, statuses and counts.
-#[derive(Clone, Copy)]
+#[derive(Clone, Copy, PartialEq, Eq)]
 pub struct Channel {
     pub slatable: [u8; 64],
     pub head: Head,
@@ -17,7 +17,7 @@ pub struct Channel {
 }
 
 // What a step gives back: the channel, and its answer.
-#[derive(Clone, Copy)]
+#[derive(Clone, Copy, PartialEq, Eq)]
 pub struct Stepped {
     pub channel: Channel,
     pub answer: Answer,
@@ -43,11 +43,7 @@ impl Channel {
     {
         Stepped {
             channel: self,
-            answer: Answer {
-                number,
-                value: 0,
-                action: Action::Nothing,
-            },
+            answer: Answer::numbered(number),
         }
     }
 }

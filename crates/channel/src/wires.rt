@@ -1,421 +1,257 @@
-// Document 01, 'A sequence on the wires': frames, events and trigger edges over a channel's head and its tables.
+// Document 01, 'A sequence on the wires': frames, events and trigger edges of a channel.
+#![tactic(auto, using(laws::specs::Cases::cases, crate::proofs::Laws::Wires::byte_in, crate::proofs::Laws::Range::range_count), unfolding(crate::specs::Wires::sent_to, crate::specs::Wires::started_by, crate::specs::Wires::started, crate::specs::Wires::cleared, crate::specs::Wires::passed, crate::specs::Wires::began_by, crate::specs::Wires::begun, crate::specs::Wires::moved_to, crate::specs::Wires::onward, crate::specs::Wires::finished, crate::specs::Wires::byte_sent, crate::specs::Wires::send_on, crate::specs::Wires::ack_address, crate::specs::Wires::ack_sending, crate::specs::Wires::counted_one, crate::specs::Wires::receive_on, crate::specs::Wires::received, crate::specs::Wires::failed_by, crate::specs::Wires::nacked, crate::specs::Wires::turned, crate::specs::Wires::beaten, crate::specs::Wires::triggered))]
+
 ghost use Rattle.std.specs.Prelude.{true, ◌≡◌, ◌+◌, ◌<◌, ◌≤◌, length, get_or};
 ghost use Rattle.rules.specs.Numbers.{buffer_size};
 ghost use Rattle.rules.specs.Tables.{start_of};
 ghost use Rattle.rules.specs.Facts.{Running};
 ghost use Rattle.sequence.specs.Facts.{Counting, Exists, Ready};
-ghost use Rattle.channel.specs.Lent.{lent, found, left, leaves};
+ghost use Rattle.channel.specs.State.{leaving, stepped};
 ghost use Rattle.channel.specs.Range.{in_range};
 ghost use Rattle.channel.specs.Wires.{sent_to, started_by, started, cleared, began_by, begun, moved_to, onward, finished, byte_sent, send_on, ack_write, ack_address, ack_sending};
 ghost use Rattle.channel.specs.Wires.{receive_on, received, failed_by, nacked, turned, beaten, triggered};
 ghost use Rattle.channel.specs.Facts.{Meets};
 
-use head::{Head, Headed};
+use crate::state::Channel;
+use head::Answer;
 use rules::{
-    ADDRESS_REFUSED, Action, DATA_REFUSED, DONE, DONE_STATUS, Edge, NOT_AWAITED, NOT_BEGUN,
-    PAST_BUFFER, Phase, UNDERWAY,
+    ADDRESS_REFUSED, Action, DATA_REFUSED, DONE_STATUS, Edge, NOT_BEGUN, Phase, Refusal, UNDERWAY,
 };
 use sequence::{Beat, Beginning, Move, Next, Tail, Turn};
 
-// ---- a frame begins
+impl Channel {
+    // ---- a frame begins
 
-fn send(
-    h: Head,
-    sla: &[u8; 64],
-    lens: &[u8; 65],
-    status: &mut [u8; 64],
-    counts: &[u8; 64],
-    n: usize,
-    a: Action,
-) -> Headed
-    requires { n < 64 }
-    ensures { left result sla.now lens.now status.new counts.now ≡ sent_to (found h sla.now lens.now status.old counts.now) n a }
-{
-    status[n] = UNDERWAY;
-    h.to_phase(Phase::Address(n as u8)).act(a)
-}
-
-fn start_by(
-    h: Head,
-    sla: &[u8; 64],
-    lens: &[u8; 65],
-    status: &mut [u8; 64],
-    counts: &[u8; 64],
-    m: Move,
-) -> Headed
-    requires { Exists m }
-    ensures { left result sla.now lens.now status.new counts.now ≡ started_by (found h sla.now lens.now status.old counts.now) m }
-{
-    let Move::Send(n) = m else {
-        return h.end_frame();
-    };
-    let a = Action::S(sla[n]);
-    send(h, sla, lens, status, counts, n, a)
-}
-
-// All STATUS and BYTECOUNT become 0, and the frame starts.
-fn start(
-    h: Head,
-    sla: &[u8; 64],
-    lens: &[u8; 65],
-    status: &mut [u8; 64],
-    counts: &mut [u8; 64],
-) -> Headed
-    requires { get_or lens.now 0 0 ≤ 64 }
-    ensures { left result sla.now lens.now status.new counts.new ≡ started (cleared (found h sla.now lens.now status.old counts.old)) }
-{
-    *status = [NOT_BEGUN; 64];
-    *counts = [0; 64];
-    let count = rules::byte(lens[0]);
-    let to = rules::first_sent(h.kind(), sla, lens, 0, count);
-    let m = sequence::next_move(false, to, count);
-    rules::mark(status, 0, to);
-    start_by(h, sla, lens, status, counts, m)
-}
-
-fn begin_by(
-    h: Head,
-    sla: &[u8; 64],
-    lens: &[u8; 65],
-    status: &mut [u8; 64],
-    counts: &mut [u8; 64],
-    b: Beginning,
-) -> Headed
-    requires { get_or lens.now 0 0 ≤ 64 }
-    ensures { left result sla.now lens.now status.new counts.new ≡ began_by (found h sla.now lens.now status.old counts.old) b }
-{
-    match b {
-        Beginning::Empty => h.to_idle().answer(DONE),
-        Beginning::Unfit => h.to_idle().answer(PAST_BUFFER),
-        Beginning::Fit => start(h, sla, lens, status, counts),
+    fn send(&mut self, n: usize, a: Action) -> Answer
+        requires { n < 64 }
+        ensures { stepped self.new result ≡ sent_to self.old n a }
+    {
+        self.status[n] = UNDERWAY;
+        self.head.walk.phase = Phase::Address(n as u8);
+        Answer::act(a)
     }
-}
 
-pub(crate) fn begin(
-    h: Head,
-    sla: &[u8; 64],
-    lens: &[u8; 65],
-    status: &mut [u8; 64],
-    counts: &mut [u8; 64],
-) -> Headed
-    requires { get_or lens.now 0 0 ≤ 64 }
-    ensures { left result sla.now lens.now status.new counts.new ≡ begun (found h sla.now lens.now status.old counts.old) }
-{
-    let count = rules::byte(lens[0]);
-    let fit = rules::fits(lens);
-    let b = sequence::begins(count, fit);
-    begin_by(h, sla, lens, status, counts, b)
-}
-
-// The same for an arm of a match: see `anew`.
-pub(crate) fn begin_anew(
-    h: Head,
-    sla: &[u8; 64],
-    lens: &[u8; 65],
-    status: &mut [u8; 64],
-    counts: &mut [u8; 64],
-) -> Headed
-    requires { get_or lens.now 0 0 ≤ 64 }
-    ensures { left result sla.now lens.now status.new counts.new ≡ begun (found h sla.now lens.now status.old counts.old) }
-{
-    begin(h, sla, lens, status, counts).anew()
-}
-
-// ---- behind a transaction
-
-// Either a stop or the transaction to send.
-fn move_to(
-    h: Head,
-    sla: &[u8; 64],
-    lens: &[u8; 65],
-    status: &mut [u8; 64],
-    counts: &[u8; 64],
-    t: Tail,
-    m: Move,
-) -> Headed
-    requires { Exists m }
-    ensures { left result sla.now lens.now status.new counts.now ≡ moved_to (found h sla.now lens.now status.old counts.now) t m }
-{
-    let Move::Send(n) = m else {
-        return h.stop(sequence::stop_by(t));
-    };
-    let a = sequence::again_by(t, sla[n]);
-    send(h, sla, lens, status, counts, n, a)
-}
-
-fn onward(
-    h: Head,
-    sla: &[u8; 64],
-    lens: &[u8; 65],
-    status: &mut [u8; 64],
-    counts: &[u8; 64],
-    n: usize,
-    t: Tail,
-) -> Headed
-    requires { Running lens.now n }
-    ensures { left result sla.now lens.now status.new counts.now ≡ onward (found h sla.now lens.now status.old counts.now) n t }
-{
-    let halt = h.halts();
-    let to = sequence::reach(h.kind(), halt, n, sla, lens);
-    let count = rules::byte(lens[0]);
-    let m = sequence::next_move(halt, to, count);
-    rules::mark(status, n + 1, to);
-    move_to(h, sla, lens, status, counts, t, m)
-}
-
-fn finish(
-    h: Head,
-    sla: &[u8; 64],
-    lens: &[u8; 65],
-    status: &mut [u8; 64],
-    counts: &[u8; 64],
-    n: usize,
-    t: Tail,
-) -> Headed
-    requires { Running lens.now n }
-    ensures { left result sla.now lens.now status.new counts.now ≡ finished (found h sla.now lens.now status.old counts.now) n t }
-{
-    status[n] = DONE_STATUS;
-    onward(h, sla, lens, status, counts, n, t)
-}
-
-// ---- ACK
-
-fn send_byte(
-    h: Head,
-    sla: &[u8; 64],
-    lens: &[u8; 65],
-    status: &[u8; 64],
-    counts: &[u8; 64],
-    mem: &[u8],
-    n: usize,
-    k: usize,
-) -> Headed
-    requires { (n < 64) × (start_of lens.now n + k < length mem.now) }
-    ensures { left result sla.now lens.now status.now counts.now ≡ byte_sent (found h sla.now lens.now status.now counts.now) mem.now n k }
-{
-    let i = rules::start_of(lens, n) + k;
-    let b = mem[i];
-    h.to_phase(Phase::Sending(n as u8)).act(Action::D(b))
-}
-
-fn send_on(
-    h: Head,
-    sla: &[u8; 64],
-    lens: &[u8; 65],
-    status: &mut [u8; 64],
-    counts: &[u8; 64],
-    mem: &[u8],
-    n: usize,
-    k: usize,
-    x: Next,
-) -> Headed
-    requires { Running lens.now n × Ready x k (get_or lens.now (n + 1) 0) × (length mem.now ≡ buffer_size) }
-    ensures { left result sla.now lens.now status.new counts.now ≡ send_on (found h sla.now lens.now status.old counts.now) mem.now n k x }
-{
-    match x {
-        Next::Cut => h.stop(Action::P),
-        Next::More => send_byte(h, sla, lens, status, counts, mem, n, k),
-        Next::Over => finish(h, sla, lens, status, counts, n, Tail::Plain),
+    fn start_by(&mut self, m: Move) -> Answer
+        requires { Exists m }
+        ensures { stepped self.new result ≡ started_by self.old m }
+    {
+        let Move::Send(n) = m else {
+            self.head.end_frame();
+            return Answer::done();
+        };
+        self.send(n, Action::S(self.slatable[n]))
     }
-}
 
-fn ack_write(
-    h: Head,
-    sla: &[u8; 64],
-    lens: &[u8; 65],
-    status: &mut [u8; 64],
-    counts: &[u8; 64],
-    mem: &[u8],
-    n: usize,
-) -> Headed
-    requires { Running lens.now n × (length mem.now ≡ buffer_size) }
-    ensures { left result sla.now lens.now status.new counts.now ≡ ack_write (found h sla.now lens.now status.old counts.now) mem.now n }
-{
-    let len = rules::byte(lens[n + 1]);
-    let x = sequence::next_byte(h.halts(), 0, len);
-    send_on(h, sla, lens, status, counts, mem, n, 0, x)
-}
-
-fn ack_address(
-    h: Head,
-    sla: &[u8; 64],
-    lens: &[u8; 65],
-    status: &mut [u8; 64],
-    counts: &[u8; 64],
-    mem: &[u8],
-    n: usize,
-) -> Headed
-    requires { Running lens.now n × (length mem.now ≡ buffer_size) }
-    ensures { left result sla.now lens.now status.new counts.now ≡ ack_address (found h sla.now lens.now status.old counts.now) mem.now n }
-{
-    if rules::reads(sla[n]) {
-        h.clock(n)
-    } else {
-        ack_write(h, sla, lens, status, counts, mem, n)
+    // All STATUS and BYTECOUNT become 0, and the frame starts.
+    fn start(&mut self) -> Answer
+        requires { get_or self.old.tranconfig 0 0 ≤ 64 }
+        ensures { stepped self.new result ≡ started (cleared self.old) }
+    {
+        self.status = [NOT_BEGUN; 64];
+        self.bytecount = [0; 64];
+        let count = rules::byte(self.tranconfig[0]);
+        let to = rules::first_sent(self.head.kind(), &self.slatable, &self.tranconfig, 0, count);
+        let m = sequence::next_move(false, to, count);
+        rules::mark(&mut self.status, 0, to);
+        self.start_by(m)
     }
-}
 
-fn ack_sending(
-    h: Head,
-    sla: &[u8; 64],
-    lens: &[u8; 65],
-    status: &mut [u8; 64],
-    counts: &mut [u8; 64],
-    mem: &[u8],
-    n: usize,
-) -> Headed
-    requires { Counting lens.now counts.old n × (length mem.now ≡ buffer_size) }
-    ensures { left result sla.now lens.now status.new counts.new ≡ ack_sending (found h sla.now lens.now status.old counts.old) mem.now n }
-{
-    let len = rules::byte(lens[n + 1]);
-    let k = rules::byte(counts[n]) + 1;
-    let x = sequence::next_byte(h.halts(), k, len);
-    sequence::count_one(counts, n);
-    send_on(h, sla, lens, status, counts, mem, n, k, x)
-}
-
-// ---- BYTE
-
-fn receive_on(
-    h: Head,
-    sla: &[u8; 64],
-    lens: &[u8; 65],
-    status: &mut [u8; 64],
-    counts: &[u8; 64],
-    n: usize,
-    x: Next,
-) -> Headed
-    requires { Running lens.now n }
-    ensures { left result sla.now lens.now status.new counts.now ≡ receive_on (found h sla.now lens.now status.old counts.now) n x }
-{
-    match x {
-        Next::Cut => h.stop(Action::Np),
-        Next::More => h.act(Action::A),
-        Next::Over => finish(h, sla, lens, status, counts, n, Tail::Nacked),
+    fn begin_by(&mut self, b: Beginning) -> Answer
+        requires { get_or self.old.tranconfig 0 0 ≤ 64 }
+        ensures { stepped self.new result ≡ began_by self.old b }
+    {
+        match b {
+            Beginning::Empty => {
+                self.head.walk = sequence::idle_walk();
+                Answer::done()
+            }
+            Beginning::Unfit => {
+                self.head.walk = sequence::idle_walk();
+                Answer::refused(Refusal::PastBuffer)
+            }
+            Beginning::Fit => self.start(),
+        }
     }
-}
 
-fn receive(
-    h: Head,
-    sla: &[u8; 64],
-    lens: &[u8; 65],
-    status: &mut [u8; 64],
-    counts: &mut [u8; 64],
-    mem: &mut [u8],
-    n: usize,
-    b: u8,
-) -> Headed
-    requires { Counting lens.now counts.old n × (length mem.old ≡ buffer_size) }
-    ensures { leaves result sla.now lens.now status.new counts.new mem.new ≡ received (found h sla.now lens.now status.old counts.old) mem.old n b }
-{
-    sequence::store(lens, counts, mem, n, b);
-    let len = rules::byte(lens[n + 1]);
-    let k = rules::byte(counts[n]) + 1;
-    let x = sequence::next_byte(h.halts(), k, len);
-    sequence::count_one(counts, n);
-    receive_on(h, sla, lens, status, counts, n, x)
-}
-
-// ---- NACK
-
-fn fail_by(
-    h: Head,
-    sla: &[u8; 64],
-    lens: &[u8; 65],
-    status: &mut [u8; 64],
-    counts: &[u8; 64],
-    n: usize,
-    masked: bool,
-) -> Headed
-    requires { Running lens.now n }
-    ensures { left result sla.now lens.now status.new counts.now ≡ failed_by (found h sla.now lens.now status.old counts.now) n masked }
-{
-    if masked {
-        onward(h, sla, lens, status, counts, n, Tail::Plain)
-    } else {
-        h.fail()
+    pub(crate) fn begin(&mut self) -> Answer
+        requires { get_or self.old.tranconfig 0 0 ≤ 64 }
+        ensures { stepped self.new result ≡ begun self.old }
+    {
+        let fit = rules::fits(&self.tranconfig);
+        self.begin_by(sequence::begins(rules::byte(self.tranconfig[0]), fit))
     }
-}
 
-fn nack(
-    h: Head,
-    sla: &[u8; 64],
-    lens: &[u8; 65],
-    status: &mut [u8; 64],
-    counts: &[u8; 64],
-    n: usize,
-    v: u8,
-) -> Headed
-    requires { Running lens.now n }
-    ensures { left result sla.now lens.now status.new counts.now ≡ nacked (found h sla.now lens.now status.old counts.now) n v }
-{
-    let read = rules::reads(sla[n]);
-    let masked = sequence::masked(h.regs.intmsk, read);
-    status[n] = v;
-    fail_by(h.note(read), sla, lens, status, counts, n, masked)
-}
+    // ---- behind a transaction
 
-// ---- an event, and a trigger edge
-
-pub(crate) fn turn(
-    h: Head,
-    sla: &[u8; 64],
-    lens: &[u8; 65],
-    status: &mut [u8; 64],
-    counts: &mut [u8; 64],
-    mem: &mut [u8],
-    t: Turn,
-) -> Headed
-    requires { Meets (lent h sla.now lens.now status.old counts.old) t × (length mem.old ≡ buffer_size) }
-    ensures { leaves result sla.now lens.now status.new counts.new mem.new ≡ turned (found h sla.now lens.now status.old counts.old) mem.old t }
-{
-    match t {
-        Turn::Unawaited => h.answer(NOT_AWAITED),
-        Turn::AckAddress(n) => ack_address(h, sla, lens, status, counts, mem, n),
-        Turn::AckSending(n) => ack_sending(h, sla, lens, status, counts, mem, n),
-        Turn::Receive(n, b) => receive(h, sla, lens, status, counts, mem, n, b),
-        Turn::NackAddress(n) => nack(h, sla, lens, status, counts, n, ADDRESS_REFUSED),
-        Turn::NackSending(n) => nack(h, sla, lens, status, counts, n, DATA_REFUSED),
-        Turn::Begin => begin_anew(h, sla, lens, status, counts),
-        Turn::Late => h.be_late(),
-        Turn::End => h.end_frame(),
-        Turn::Fault(f) => h.fault(f),
+    // Either a stop or the transaction to send.
+    fn move_to(&mut self, t: Tail, m: Move) -> Answer
+        requires { Exists m }
+        ensures { stepped self.new result ≡ moved_to self.old t m }
+    {
+        let Move::Send(n) = m else {
+            return self.head.stop(sequence::stop_by(t));
+        };
+        self.send(n, sequence::again_by(t, self.slatable[n]))
     }
-}
 
-fn beat(
-    h: Head,
-    sla: &[u8; 64],
-    lens: &[u8; 65],
-    status: &mut [u8; 64],
-    counts: &mut [u8; 64],
-    b: Beat,
-) -> Headed
-    requires { get_or lens.now 0 0 ≤ 64 }
-    ensures { left result sla.now lens.now status.new counts.new ≡ beaten (found h sla.now lens.now status.old counts.old) b }
-{
-    match b {
-        Beat::Quiet => h.answer(DONE),
-        Beat::Begin => begin(h, sla, lens, status, counts),
-        Beat::Late => h.be_late(),
+    fn onward(&mut self, n: usize, t: Tail) -> Answer
+        requires { Running self.old.tranconfig n }
+        ensures { stepped self.new result ≡ onward self.old n t }
+    {
+        let halt = self.head.halts();
+        let to = sequence::reach(self.head.kind(), halt, n, &self.slatable, &self.tranconfig);
+        let m = sequence::next_move(halt, to, rules::byte(self.tranconfig[0]));
+        rules::mark(&mut self.status, n + 1, to);
+        self.move_to(t, m)
     }
-}
 
-// A trigger edge's effect on a channel that is in range, over its tables.
-pub fn trigger_lent(
-    h: Head,
-    sla: &[u8; 64],
-    lens: &[u8; 65],
-    status: &mut [u8; 64],
-    counts: &mut [u8; 64],
-    edge: Edge,
-) -> Headed
-    requires { in_range (lent h sla.now lens.now status.old counts.old) ≡ true }
-    ensures { left result sla.now lens.now status.new counts.new ≡ triggered (found h sla.now lens.now status.old counts.old) edge }
-{
-    let w = h.walk;
-    let p = w.phase;
-    let b = sequence::edge_beat(p, h.regs.te, h.regs.tp, edge);
-    beat(h, sla, lens, status, counts, b)
+    fn finish(&mut self, n: usize, t: Tail) -> Answer
+        requires { Running self.old.tranconfig n }
+        ensures { stepped self.new result ≡ finished self.old n t }
+    {
+        self.status[n] = DONE_STATUS;
+        self.onward(n, t)
+    }
+
+    // ---- ACK
+
+    fn send_byte(&mut self, mem: &[u8], n: usize, k: usize) -> Answer
+        requires { (n < 64) × (start_of self.old.tranconfig n + k < length mem.now) }
+        ensures { stepped self.new result ≡ byte_sent self.old mem.now n k }
+    {
+        self.head.walk.phase = Phase::Sending(n as u8);
+        Answer::act(Action::D(mem[rules::start_of(&self.tranconfig, n) + k]))
+    }
+
+    fn send_on(&mut self, mem: &[u8], n: usize, k: usize, x: Next) -> Answer
+        requires { Running self.old.tranconfig n × Ready x k (get_or self.old.tranconfig (n + 1) 0) × (length mem.now ≡ buffer_size) }
+        ensures { stepped self.new result ≡ send_on self.old mem.now n k x }
+    {
+        match x {
+            Next::Cut => self.head.stop(Action::P),
+            Next::More => self.send_byte(mem, n, k),
+            Next::Over => self.finish(n, Tail::Plain),
+        }
+    }
+
+    fn ack_write(&mut self, mem: &[u8], n: usize) -> Answer
+        requires { Running self.old.tranconfig n × (length mem.now ≡ buffer_size) }
+        ensures { stepped self.new result ≡ ack_write self.old mem.now n }
+    {
+        let len = rules::byte(self.tranconfig[n + 1]);
+        let x = sequence::next_byte(self.head.halts(), 0, len);
+        self.send_on(mem, n, 0, x)
+    }
+
+    fn ack_address(&mut self, mem: &[u8], n: usize) -> Answer
+        requires { Running self.old.tranconfig n × (length mem.now ≡ buffer_size) }
+        ensures { stepped self.new result ≡ ack_address self.old mem.now n }
+    {
+        if rules::reads(self.slatable[n]) {
+            self.head.clock(n)
+        } else {
+            self.ack_write(mem, n)
+        }
+    }
+
+    fn ack_sending(&mut self, mem: &[u8], n: usize) -> Answer
+        requires { Counting self.old.tranconfig self.old.bytecount n × (length mem.now ≡ buffer_size) }
+        ensures { stepped self.new result ≡ ack_sending self.old mem.now n }
+    {
+        let len = rules::byte(self.tranconfig[n + 1]);
+        let k = rules::byte(self.bytecount[n]) + 1;
+        let x = sequence::next_byte(self.head.halts(), k, len);
+        sequence::count_one(&mut self.bytecount, n);
+        self.send_on(mem, n, k, x)
+    }
+
+    // ---- BYTE
+
+    fn receive_on(&mut self, n: usize, x: Next) -> Answer
+        requires { Running self.old.tranconfig n }
+        ensures { stepped self.new result ≡ receive_on self.old n x }
+    {
+        match x {
+            Next::Cut => self.head.stop(Action::Np),
+            Next::More => Answer::act(Action::A),
+            Next::Over => self.finish(n, Tail::Nacked),
+        }
+    }
+
+    fn receive(&mut self, mem: &mut [u8], n: usize, b: u8) -> Answer
+        requires { Counting self.old.tranconfig self.old.bytecount n × (length mem.old ≡ buffer_size) }
+        ensures { leaving mem.new (stepped self.new result) ≡ received self.old mem.old n b }
+    {
+        sequence::store(&self.tranconfig, &self.bytecount, mem, n, b);
+        let len = rules::byte(self.tranconfig[n + 1]);
+        let k = rules::byte(self.bytecount[n]) + 1;
+        let x = sequence::next_byte(self.head.halts(), k, len);
+        sequence::count_one(&mut self.bytecount, n);
+        self.receive_on(n, x)
+    }
+
+    // ---- NACK
+
+    fn fail_by(&mut self, n: usize, masked: bool) -> Answer
+        requires { Running self.old.tranconfig n }
+        ensures { stepped self.new result ≡ failed_by self.old n masked }
+    {
+        if masked {
+            self.onward(n, Tail::Plain)
+        } else {
+            self.head.fail()
+        }
+    }
+
+    fn nack(&mut self, n: usize, v: u8) -> Answer
+        requires { Running self.old.tranconfig n }
+        ensures { stepped self.new result ≡ nacked self.old n v }
+    {
+        let read = rules::reads(self.slatable[n]);
+        self.status[n] = v;
+        self.head.note(read);
+        self.fail_by(n, sequence::masked(self.head.regs.intmsk, read))
+    }
+
+    // ---- an event, and a trigger edge
+
+    pub(crate) fn turn(&mut self, mem: &mut [u8], t: Turn) -> Answer
+        requires { Meets self.old t × (length mem.old ≡ buffer_size) }
+        ensures { leaving mem.new (stepped self.new result) ≡ turned self.old mem.old t }
+    {
+        match t {
+            Turn::AckAddress(n) => return self.ack_address(mem, n),
+            Turn::AckSending(n) => return self.ack_sending(mem, n),
+            Turn::Receive(n, b) => return self.receive(mem, n, b),
+            Turn::NackAddress(n) => return self.nack(n, ADDRESS_REFUSED),
+            Turn::NackSending(n) => return self.nack(n, DATA_REFUSED),
+            Turn::Begin => return self.begin(),
+            Turn::Unawaited => return Answer::refused(Refusal::NotAwaited),
+            Turn::Late => self.head.be_late(),
+            Turn::End => self.head.end_frame(),
+            Turn::Fault(f) => self.head.fault(f),
+        }
+        Answer::done()
+    }
+
+    fn beat(&mut self, b: Beat) -> Answer
+        requires { get_or self.old.tranconfig 0 0 ≤ 64 }
+        ensures { stepped self.new result ≡ beaten self.old b }
+    {
+        match b {
+            Beat::Quiet => {}
+            Beat::Begin => return self.begin(),
+            Beat::Late => self.head.be_late(),
+        }
+        Answer::done()
+    }
+
+    // A trigger edge's effect on a channel that is in range, in place.
+    pub fn trigger(&mut self, edge: Edge) -> Answer
+        requires { in_range self.old ≡ true }
+        ensures { stepped self.new result ≡ triggered self.old edge }
+    {
+        let g = self.head.regs;
+        self.beat(sequence::edge_beat(self.head.walk.phase, g.te, g.tp, edge))
+    }
 }

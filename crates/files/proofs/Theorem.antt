@@ -2,6 +2,7 @@
 use Rattle.std.specs.Prelude.{ℕ, ◌<◌, ◌≤◌, List, ◌≡◌, refl, length}
 use Rattle.std.proofs.Common.{sym, ap, ◌∙◌}
 use Rattle.rules.specs.declared.parts.Straps.{Straps}
+use Rattle.rules.specs.Numbers.{not_a_file}
 use Rattle.channel.proofs.Laws.Kept.{fresh-in_range, zeros-length}
 use Rattle.mixes.specs.Mix.{ends}
 use Rattle.works.specs.State.{State, Accepted}
@@ -9,7 +10,7 @@ use Rattle.works.specs.Work.{Own, Sound, work_done, work_reply}
 use Rattle.works.specs.Idle.{IdleOwn, deed_number, deed_after}
 use Rattle.works.proofs.Laws.Idle.{done_after}
 use Rattle.works.proofs.Laws.Spares.{idle-leaves, refused-leaves}
-use Rattle.files.specs.File.{Blocks, Readable, fault_number, not_afile}
+use Rattle.files.specs.File.{Blocks, Readable, fault_number}
 use Rattle.files.specs.Work.{file_from, loaded_own}
 use Rattle.files.specs.Deeds.{load_deed, save_deed, load_work, save_work}
 use Rattle.files.specs.Statement.{Resting, Back, OfItsBlocks, ReadWritten, Writes, WrittenRead, Rewound, TypedIn, SameTables, Untouched, the_channel, typed, reset_own}
@@ -35,14 +36,14 @@ pub write_then_read : (o : Own) → Resting o → (out : List ℕ) → deed_numb
 write_then_read o h out z q i = trips.written_read o h out (trips.own_room o h out z) q i
 
 -- A LOAD ANSWERS 10 EXACTLY WHEN NO IDLE CHANNEL IN RANGE WRITES THIS FILE
-pub ten_means_nobody : (f : List ℕ) (o : Own) → Resting o → deed_number (load_deed f) o ≡ not_afile → (q : Own) → Resting q → Writes q f → ⊥
+pub ten_means_nobody : (f : List ℕ) (o : Own) → Resting o → deed_number (load_deed f) o ≡ not_a_file → (q : Own) → Resting q → Writes q f → ⊥
 ten_means_nobody f o h e q s w = trips.written_not_10 f o h q s w e
 
-pub nobody_means_ten : (f : List ℕ) (o : Own) → Resting o → ((q : Own) → Resting q → Writes q f → ⊥) → deed_number (load_deed f) o ≡ not_afile
+pub nobody_means_ten : (f : List ℕ) (o : Own) → Resting o → ((q : Own) → Resting q → Writes q f → ⊥) → deed_number (load_deed f) o ≡ not_a_file
 nobody_means_ten f o h none = trips.ten_or f o h (λ e. none (loaded_own f o) (trips.loaded_resting f o h e) (trips.loaded-writes f o h e))
 
 -- and what is not answered 10 the channel writes into which it is read
-pub not_ten_is_written : (f : List ℕ) (o : Own) → Resting o → (deed_number (load_deed f) o ≡ not_afile → ⊥) → Resting (loaded_own f o) × Writes (loaded_own f o) f
+pub not_ten_is_written : (f : List ℕ) (o : Own) → Resting o → (deed_number (load_deed f) o ≡ not_a_file → ⊥) → Resting (loaded_own f o) × Writes (loaded_own f o) f
 not_ten_is_written f o h e = (trips.loaded_resting f o h e, trips.loaded-writes f o h e)
 
 -- A READ IS AS IF TYPED: from reset pointers each of the writes is answered 0, and they leave the file's tables and bytes over what was there

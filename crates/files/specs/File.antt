@@ -1,19 +1,9 @@
 -- Document 02, request Five: the sequence file. A header of 12 bytes and three blocks.
-use Rattle.std.specs.Prelude.{ℕ, ◌+◌, ◌*◌, ◌/◌, ◌%◌, ◌≤◌, Bool, true, false, List, [], ◌∷◌, ◌++◌, ◌≡◌, eqb, ltb, length, get_or, take, drop}
+use Rattle.std.specs.Prelude.{ℕ, ◌+◌, ◌*◌, ◌/◌, ◌%◌, ◌≤◌, List, [], ◌∷◌, ◌++◌, Result, Ok, Err, ◌≡◌, bytes_eq, ltb, length, get_or, take, drop}
 use Rattle.laws.specs.Pick.{when◌then◌else◌}
-use Rattle.rules.specs.Numbers.{buffer_size, done}
+use Rattle.rules.specs.Numbers.{buffer_size, done, not_a_file}
 use Rattle.files.specs.declared.format.Fault.{Fault}
-use Rattle.files.specs.declared.format.Fault.TheVariants.{Sound, NoHeader, Crowded, Short, Overfull, Longer, Forged}
-
--- ---- numbers that an answer carries
-
--- reading: any other file or a byte after it
-abbrev pub not_afile : ℕ
-not_afile = 10
-
--- writing: the output buffer is shorter than the file, or the lengths sum above 4,352
-abbrev pub no_room : ℕ
-no_room = 11
+use Rattle.files.specs.declared.format.Fault.TheVariants.{NoHeader, Crowded, Short, Overfull, Longer, Forged}
 
 -- ---- the format
 
@@ -70,43 +60,31 @@ data_in f = drop (2 * count_in f) (body_of f)
 
 -- ---- which files are readable: 10 (reading) for any other file or a byte after it
 
--- two lists are the same
-abbrev pub same_as : List ℕ → List ℕ → Bool
-same_as [] [] = true
-same_as [] (y ∷ k) = false
-same_as (x ∷ l) [] = false
-same_as (x ∷ l) (y ∷ k) = when eqb x y then same_as l k else false
-
 -- the header is the one that its count and the summed lengths force
-unfoldable pub headed : List ℕ → ℕ → ℕ → Fault
-headed f n s = when same_as (take 12 f) (header_of n s) then Sound else Forged
+unfoldable pub headed : List ℕ → ℕ → ℕ → Result (Unit {0}) Fault
+headed f n s = when bytes_eq (take 12 f) (header_of n s) then Ok tt else Err Forged
 
 -- lengths that sum above 4,352 can't be loaded; the data are as many bytes as the lengths say, and no byte follows
-unfoldable pub body_fault : List ℕ → ℕ → ℕ → Fault
+unfoldable pub body_fault : List ℕ → ℕ → ℕ → Result (Unit {0}) Fault
 body_fault f n s =
-    when ltb buffer_size s then Overfull else
-    when ltb (length f) (12 + 2 * n + s) then Short else
-    when ltb (12 + 2 * n + s) (length f) then Longer else headed f n s
+    when ltb buffer_size s then Err Overfull else
+    when ltb (length f) (12 + 2 * n + s) then Err Short else
+    when ltb (12 + 2 * n + s) (length f) then Err Longer else headed f n s
 
 -- what is wrong with a file, the first that applies
-unfoldable pub fault_of : List ℕ → Fault
+unfoldable pub fault_of : List ℕ → Result (Unit {0}) Fault
 fault_of f =
-    when ltb (length f) 12 then NoHeader else
-    when ltb 64 (count_in f) then Crowded else
-    when ltb (length f) (12 + 2 * count_in f) then Short else body_fault f (count_in f) (total (lengths_in f))
+    when ltb (length f) 12 then Err NoHeader else
+    when ltb 64 (count_in f) then Err Crowded else
+    when ltb (length f) (12 + 2 * count_in f) then Err Short else body_fault f (count_in f) (total (lengths_in f))
 
 -- and the number that it gives a read
-abbrev pub fault_number : Fault → ℕ
-fault_number Sound = done
-fault_number NoHeader = not_afile
-fault_number Crowded = not_afile
-fault_number Short = not_afile
-fault_number Overfull = not_afile
-fault_number Longer = not_afile
-fault_number Forged = not_afile
+abbrev pub fault_number : Result (Unit {0}) Fault → ℕ
+fault_number (Ok t) = done
+fault_number (Err x) = not_a_file
 
 abbrev pub Readable : List ℕ → Type 0
-Readable f = fault_of f ≡ Sound
+Readable f = fault_of f ≡ Ok tt
 
 -- ---- bytes moved
 

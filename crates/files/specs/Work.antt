@@ -1,26 +1,21 @@
 -- Document 02, request Five: a file written from an Idle channel's first count transactions, and read into an Idle channel. Both are works of a channel, with the file's buffer.
 use Rattle.std.specs.Prelude.{ℕ, ◌+◌, ◌*◌, List, ◌∷◌, ltb, get_or, take, drop, replicate}
 use Rattle.laws.specs.Pick.{when◌then◌else◌}
-use Rattle.rules.specs.Numbers.{done}
+use Rattle.rules.specs.Numbers.{done, no_room}
 use Rattle.rules.specs.Tables.{sum_of, fitting}
 use Rattle.head.specs.declared.state.Head.{Head}
 use Rattle.channel.specs.declared.state.Channel.{Channel}
 use Rattle.channel.specs.State.{zeros}
 use Rattle.works.specs.Work.{Own}
-use Rattle.files.specs.File.{file_of, count_in, addresses_in, lengths_in, data_in, no_room, over}
+use Rattle.files.specs.File.{file_of, count_in, addresses_in, lengths_in, data_in, over}
 
 -- ---- reading
 
 -- after a read TRANSEL, TRANOFS and the SLATABLE, TRANCONFIG and DATA pointers are 0; all else, reset keys too, stays
 abbrev pub rewound_head : Head → Head
-rewound_head h = record {
-  regs = record { intmsk = h.regs.intmsk; transel = 0; tranofs = 0; tp = h.regs.tp; te = h.regs.te };
-  ptrs = record { sla = 0; conf = 0; buf = 0; count = h.ptrs.count };
-  flags = h.flags;
-  walk = h.walk;
-  key = h.key;
-  straps = h.straps;
-  settings = h.settings;
+rewound_head h = record h {
+  regs = record h.regs { transel = 0; tranofs = 0 };
+  ptrs = record h.ptrs { sla = 0; conf = 0; buf = 0 };
 }
 
 -- the tables of a file: its addresses; its count and its lengths; entries past the count become zero
@@ -36,7 +31,7 @@ loaded_bytes f = over (data_in f) zeros
 
 -- the channel into which it is read
 abbrev pub loaded : List ℕ → Channel → Channel
-loaded f c = record { head = rewound_head c.head; slatable = loaded_sla f; tranconfig = loaded_conf f; status = c.status; bytecount = c.bytecount }
+loaded f c = record c { head = rewound_head c.head; slatable = loaded_sla f; tranconfig = loaded_conf f }
 
 abbrev pub loaded_own : List ℕ → Own → Own
 loaded_own f o = record { channel = loaded f o.channel; bytes = loaded_bytes f }

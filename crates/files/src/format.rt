@@ -1,14 +1,10 @@
 // The file: a header of 12 bytes, and behind it addresses, lengths and data with no gap.
-ghost use Rattle.std.specs.Prelude.{◌++◌, ◌≡◌, ◌+◌, ◌*◌, ◌/◌, ◌%◌, ◌<◌, ◌≤◌, length};
+ghost use Rattle.std.specs.Prelude.{◌++◌, ◌≡◌, ◌+◌, ◌*◌, ◌<◌, ◌≤◌, length};
+ghost use Rattle.std.specs.List.{flat_map};
 ghost use Rattle.rules.specs.Numbers.{buffer_size};
-ghost use Rattle.files.specs.File.{header_of, total, count_in, headed, body_fault, fault_of, fault_number, over};
+ghost use Rattle.files.specs.File.{word, header_of, total, count_in, headed, body_fault, fault_of, over};
 
-use rules::{BUFFER, DONE, byte};
-
-// The numbers of a file that can't be read, and of one that can't be written.
-pub const NOT_A_FILE: u8 = 10;
-
-pub const NO_ROOM: u8 = 11;
+use rules::{BUFFER, Refusal};
 
 pub const HEADER: usize = 12;
 
@@ -16,10 +12,8 @@ pub const HEADER: usize = 12;
 pub const LARGEST: usize = 4492;
 
 // What is wrong with a file.
-#[derive(Clone, Copy)]
+#[derive(Clone, Copy, PartialEq, Eq)]
 pub enum Fault {
-    // nothing
-    Sound,
     // it has fewer than 12 bytes
     NoHeader,
     // its count is above 64
@@ -34,42 +28,40 @@ pub enum Fault {
     Forged,
 }
 
-// ---- the header
+impl From<Fault> for Refusal {
+    ghost use Rattle.rules.specs.declared.numbers.Refusal.TheVariants.{NotAFile};
+    ghost use Rattle.std.specs.Prelude.{◌≡◌};
 
-fn low(n: usize) -> u8
-    ensures { result ≡ n % 256 }
-{
-    (n % 256) as u8
+    ghost from_gives = { λ _ refusal. refusal ≡ NotAFile };
+
+    fn from(_fault: Fault) -> Refusal {
+        Refusal::NotAFile
+    }
 }
 
-fn high(n: usize) -> u8
+// ---- the header
+
+fn word(n: usize) -> [u8; 2]
     requires { n < 65536 }
-    ensures { result ≡ n / 256 }
+    ensures { result ≡ word n }
 {
-    (n / 256) as u8
+    (n as u16).to_le_bytes()
 }
 
 // The header of n transactions with s bytes of data.
-pub(crate) fn header(n: usize, s: usize) -> [u8; HEADER]
+pub(crate) fn header(n: usize, s: usize) -> [[u8; 2]; 6]
     requires { (n ≤ 64) × (s ≤ buffer_size) }
-    ensures { result ≡ header_of n s }
+    ensures { flat_map (λ x. x) result ≡ header_of n s }
 {
     let lengths = HEADER + n;
     let data = HEADER + 2 * n;
-    let all = data + s;
     [
-        low(n),
-        high(n),
-        low(s),
-        high(s),
-        low(HEADER),
-        high(HEADER),
-        low(lengths),
-        high(lengths),
-        low(data),
-        high(data),
-        low(all),
-        high(all),
+        word(n),
+        word(s),
+        word(HEADER),
+        word(lengths),
+        word(data),
+        word(data + s),
     ]
 }
 
@@ -78,85 +70,65 @@ pub(crate) fn count(file: &[u8]) -> usize
     requires { 12 ≤ length file.now }
     ensures { result ≡ count_in file.now }
 {
-    byte(file[0]) + 256 * byte(file[1])
+    usize::from(u16::from_le_bytes([file[0], file[1]]))
 }
 
 // The lengths summed.
-pub(crate) fn sum(lengths: &[u8]) -> usize
+fn sum(lengths: &[u8]) -> usize
     requires { length lengths.now ≤ 64 }
-    ensures { (result ≡ total lengths.now) × (result ≤ 255 * length lengths.now) }
+    ensures { result ≡ total lengths.now }
 {
-    let mut t: usize = 0;
-    let mut i: usize = 0;
-    while i < lengths.len() {
-        t += byte(lengths[i]);
-        i += 1;
-    }
-    t
+    lengths.iter().map(|&len| usize::from(len)).sum()
 }
 
 // ---- whether a file is readable
 
-fn headed_by(file: &[u8], n: usize, s: usize) -> Fault
+fn headed_by(file: &[u8], n: usize, s: usize) -> Result<(), Fault>
     requires { (12 ≤ length file.now) × (n ≤ 64) × (s ≤ buffer_size) }
     ensures { result ≡ headed file.now n s }
 {
-    let forced = header(n, s);
-    if check::same(&file[..HEADER], &forced) {
-        return Fault::Sound;
+    if &file[..HEADER] == header(n, s).as_flattened() {
+        Ok(())
+    } else {
+        Err(Fault::Forged)
     }
-    Fault::Forged
 }
 
-fn body_fault(file: &[u8], n: usize, s: usize) -> Fault
+#[tactic(auto, using(laws::specs::Cases::cases), unfolding(crate::specs::File::body_fault))]
+fn body_fault(file: &[u8], n: usize, s: usize) -> Result<(), Fault>
     requires { (12 ≤ length file.now) × (n ≤ 64) }
     ensures { result ≡ body_fault file.now n s }
 {
     if BUFFER < s {
-        return Fault::Overfull;
+        return Err(Fault::Overfull);
     }
     let all = HEADER + 2 * n + s;
     if file.len() < all {
-        return Fault::Short;
+        return Err(Fault::Short);
     }
     if all < file.len() {
-        return Fault::Longer;
+        return Err(Fault::Longer);
     }
     headed_by(file, n, s)
 }
 
 // What is wrong with a file, the first that applies.
-pub fn fault_of(file: &[u8]) -> Fault
+pub fn fault_of(file: &[u8]) -> Result<(), Fault>
     ensures { result ≡ fault_of file.now }
 {
     if file.len() < HEADER {
-        return Fault::NoHeader;
+        return Err(Fault::NoHeader);
     }
     let n = count(file);
     if 64 < n {
-        return Fault::Crowded;
+        return Err(Fault::Crowded);
     }
-    if file.len() < HEADER + 2 * n {
-        return Fault::Short;
+    let data = HEADER + 2 * n;
+    if file.len() < data {
+        return Err(Fault::Short);
     }
-    let body = &file[HEADER..];
-    let data = 2 * n;
-    let s = sum(&body[n..data]);
+    let s = sum(&file[HEADER + n..data]);
     body_fault(file, n, s)
-}
-
-pub(crate) fn fault_number(f: Fault) -> u8
-    ensures { result ≡ fault_number f }
-{
-    match f {
-        Fault::Sound => DONE,
-        Fault::NoHeader => NOT_A_FILE,
-        Fault::Crowded => NOT_A_FILE,
-        Fault::Short => NOT_A_FILE,
-        Fault::Overfull => NOT_A_FILE,
-        Fault::Longer => NOT_A_FILE,
-        Fault::Forged => NOT_A_FILE,
-    }
 }
 
 // ---- bytes moved: each once, from slice to slice

@@ -5,6 +5,6 @@ mod format;
 mod single;
 mod whole;
 
-pub use format::{Fault, HEADER, LARGEST, NO_ROOM, NOT_A_FILE, fault_of};
+pub use format::{Fault, HEADER, LARGEST, fault_of};
 pub use single::{load, save};
 pub use whole::{load_into, save_from};

@@ -1,11 +1,9 @@
 -- What a step is to channel c: an event that it answers, a reset, a frame's begin.
-use Rattle.std.specs.Prelude.{ℕ, Bool, true, false, eqb}
+use Rattle.std.specs.Prelude.{ℕ, Bool, true, false, eqb, Option, Some, None}
 use Rattle.laws.specs.Pick.{when◌then◌else◌}
 use Rattle.rules.specs.declared.state.Phase.{Phase}
 use Rattle.rules.specs.declared.state.Phase.TheVariants.{Idle, Address, Sending, Receiving, Stopping, Waiting}
 use Rattle.rules.specs.declared.registers.Command.{Command}
-use Rattle.rules.specs.declared.registers.Place.{Place}
-use Rattle.rules.specs.declared.registers.Place.TheVariants.{Here, Elsewhere}
 use Rattle.rules.specs.declared.registers.Register.{Register}
 use Rattle.rules.specs.declared.registers.Register.TheVariants.{Status, Control, Chstatus, Intmsk, Slatable, Tranconfig, Data, Transel, Tranofs, Bytecount, Setting, Preset}
 use Rattle.rules.specs.Access.{overrun_of, preset_of, resets_of}
@@ -48,9 +46,9 @@ heard_by c (One op d) number = when eqb d c then heard_op op number else none
 heard_by c (All t) number = none
 
 -- ---- a reset of channel c: A5h and then 5Ah at its PRESET or at CTRLPRESET, or the hardware reset
-abbrev pub place_resets : Channel → Place → ℕ → Bool
-place_resets c (Here reg) v = resets_of (preset_of reg) v c.head.key
-place_resets c Elsewhere v = false
+abbrev pub place_resets : Channel → Option Register → ℕ → Bool
+place_resets c (Some reg) v = resets_of (preset_of reg) v c.head.key
+place_resets c None v = false
 
 abbrev pub op_resets : Channel → ℕ → Op → Bool
 op_resets c number (Write a v) = place_resets c (place_of number a) v
@@ -116,9 +114,9 @@ is_control Preset = false
 abbrev pub reg_begins : Channel → Register → ℕ → Bool
 reg_begins c reg v = when is_control reg then ask_begins (ask_at c (command_of v)) else false
 
-abbrev pub place_begins : Channel → Place → ℕ → Bool
-place_begins c (Here reg) v = reg_begins c reg v
-place_begins c Elsewhere v = false
+abbrev pub place_begins : Channel → Option Register → ℕ → Bool
+place_begins c (Some reg) v = reg_begins c reg v
+place_begins c None v = false
 
 abbrev pub op_begins : Channel → ℕ → Op → Bool
 op_begins c number (Write a v) = place_begins c (place_of number a) v

@@ -13,8 +13,7 @@ use Rattle.sequence.specs.declared.wires.Turn.{Turn}
 use Rattle.sequence.specs.Wires.{halted_of, rest_of, ending_of, turn_of}
 use Rattle.sequence.specs.Walk.{idle, waiting, to_phase, sto_recorded, seq_recorded, error_noted, nack_flags, fault_flags, late_flags, late_walk, end_flags, end_walk}
 use Rattle.head.specs.declared.state.Head.{Head}
-use Rattle.head.specs.declared.state.Headed.{Headed}
-use Rattle.head.specs.State.{with_regs, with_flags, with_ptrs, with_walk, with_state, acted}
+use Rattle.head.specs.State.{Headed, with_regs, with_flags, with_ptrs, with_walk, with_state, acted}
 
 -- ---- words
 

@@ -12,8 +12,8 @@ use Rattle.rules.specs.declared.wires.Action.{Action}
 use Rattle.rules.specs.declared.wires.Action.TheVariants.{Nothing}
 use Rattle.sequence.specs.Walk.{idle, no_flags}
 use Rattle.head.specs.declared.state.Settings.{Settings}
+use Rattle.head.specs.declared.state.Answer.{Answer}
 use Rattle.head.specs.declared.state.Head.{Head}
-use Rattle.head.specs.declared.state.Headed.{Headed}
 
 -- ---- the head with one part replaced
 abbrev pub with_regs : Head → Regs → Head
@@ -59,21 +59,38 @@ fresh_head x = record {
 
 -- ---- what a step answers: number, value, action
 
-abbrev pub answered : Head → ℕ → ℕ → Action → Headed
-answered h n v a = record { head = h; answer = record { number = n; value = v; action = a } }
+abbrev pub answer_of : ℕ → ℕ → Action → Answer
+answer_of n v a = record { number = n; value = v; action = a }
 
 -- only a read answered 0 carries a value, else it is 00h; every answer but 0 has no action
+abbrev pub numbered : ℕ → Answer
+numbered n = answer_of n 0 Nothing
+
+-- a read, with its value
+abbrev pub valued : ℕ → Answer
+valued v = answer_of done v Nothing
+
+-- done, with an action
+abbrev pub acting : Action → Answer
+acting a = answer_of done 0 a
+
+-- ---- what a step makes of a head, and what it answers
+pub record Headed : Type 0 where
+  pub head : Head
+  pub answer : Answer
+
+abbrev pub headed : Head → Answer → Headed
+headed h a = record { head = h; answer = a }
+
 abbrev pub refused : Head → ℕ → Headed
-refused h n = answered h n 0 Nothing
+refused h n = headed h (numbered n)
 
 -- done, with no action
 abbrev pub plain : Head → Headed
-plain h = answered h done 0 Nothing
+plain h = refused h done
 
--- a read, with its value
 abbrev pub replied : Head → ℕ → Headed
-replied h v = answered h done v Nothing
+replied h v = headed h (valued v)
 
--- done, with an action
 abbrev pub acted : Head → Action → Headed
-acted h a = answered h done 0 a
+acted h a = headed h (acting a)

@@ -6,4 +6,4 @@ mod range;
 mod state;
 mod wires;
 
-pub use state::{Answer, Head, Headed, Settings};
+pub use state::{Answer, Head, Settings};

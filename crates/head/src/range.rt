@@ -5,17 +5,12 @@ ghost use Rattle.head.specs.Range.{head_in};
 use crate::state::Head;
 
 impl Head {
-    pub fn in_range(self, count: u8) -> bool
-        ensures { result ≡ head_in self count }
+    #[tactic(auto, using(laws::specs::Cases::cases), unfolding(crate::specs::Range::head_in))]
+    pub fn in_range(&self, count: u8) -> bool
+        ensures { result ≡ head_in self.now count }
     {
-        if bounds::pointers_in(self.ptrs) {
-            if bounds::registers_in(count, self.regs.transel, self.regs.intmsk) {
-                bounds::walk_in(self.walk, self.regs.te, self.settings.framecnt)
-            } else {
-                false
-            }
-        } else {
-            false
-        }
+        bounds::pointers_in(self.ptrs)
+            && bounds::registers_in(count, self.regs.transel, self.regs.intmsk)
+            && bounds::walk_in(self.walk, self.regs.te, self.settings.framecnt)
     }
 }

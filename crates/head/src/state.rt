@@ -1,11 +1,12 @@
-// The head of a channel, what a step answers, and the changes of one part of the head.
+// The head of a channel, and what a step answers.
 ghost use Rattle.std.specs.Prelude.{◌≡◌};
-ghost use Rattle.head.specs.State.{settings_of, fresh_head, refused, replied, acted, with_walk, with_flags, with_state, with_key};
+ghost use Rattle.rules.specs.Numbers.{done, refusal_number};
+ghost use Rattle.head.specs.State.{settings_of, fresh_head, numbered, valued, acting};
 
-use rules::{Action, DONE, Flags, Kind, Ptrs, Regs, Straps, Walk};
+use rules::{Action, DONE, Flags, Kind, Ptrs, Refusal, Regs, Straps, Walk};
 
 // FRAMECNT, REFRATE, SCLL, SCLH, MODE and TIMEOUT; of a UFm channel SCLPER and SDADLY stand in place of SCLL and SCLH, and TIMEOUT is reserved.
-#[derive(Clone, Copy)]
+#[derive(Clone, Copy, PartialEq, Eq)]
 pub struct Settings {
     pub framecnt: u8,
     pub refrate: u8,
@@ -17,8 +18,7 @@ pub struct Settings {
 
 // A channel without its tables: its registers and settings, flags, pointers, the walk of its sequence, whether A5h was written to PRESET, and what the hardware
 // reset chose.
-// A step takes it by value and has the tables lent, so that no table is copied from call to call.
-#[derive(Clone, Copy)]
+#[derive(Clone, Copy, PartialEq, Eq)]
 pub struct Head {
     pub regs: Regs,
     pub key: bool,
@@ -30,18 +30,57 @@ pub struct Head {
 }
 
 // The number of document 01, the value of a read, and the action.
-#[derive(Clone, Copy)]
+#[derive(Clone, Copy, PartialEq, Eq)]
 pub struct Answer {
     pub number: u8,
     pub value: u8,
     pub action: Action,
 }
 
-// What a step over lent tables gives back.
-#[derive(Clone, Copy)]
-pub struct Headed {
-    pub head: Head,
-    pub answer: Answer,
+impl Answer {
+    // A number and nothing else.
+    pub fn numbered(number: u8) -> Self
+        ensures { result ≡ numbered number }
+    {
+        Answer {
+            number,
+            value: 0,
+            action: Action::Nothing,
+        }
+    }
+
+    pub fn done() -> Self
+        ensures { result ≡ numbered done }
+    {
+        Answer::numbered(DONE)
+    }
+
+    pub fn refused(e: Refusal) -> Self
+        ensures { result ≡ numbered (refusal_number e) }
+    {
+        Answer::numbered(e.number())
+    }
+
+    // The value of a read.
+    pub fn reply(value: u8) -> Self
+        ensures { result ≡ valued value }
+    {
+        Answer {
+            number: DONE,
+            value,
+            action: Action::Nothing,
+        }
+    }
+
+    pub fn act(action: Action) -> Self
+        ensures { result ≡ acting action }
+    {
+        Answer {
+            number: DONE,
+            value: 0,
+            action,
+        }
+    }
 }
 
 // The settings as a reset leaves them.
@@ -73,112 +112,14 @@ impl Head {
     pub fn new(straps: Straps) -> Self
         ensures { result ≡ fresh_head straps }
     {
-        let kind = straps.kind;
         Head {
-            regs: Regs {
-                intmsk: 0,
-                transel: 0,
-                tranofs: 0,
-                tp: false,
-                te: false,
-            },
+            regs: Regs::default(),
             key: false,
-            straps,
-            settings: settings_of(kind),
-            ptrs: Ptrs {
-                sla: 0,
-                conf: 0,
-                buf: 0,
-                count: 0,
-            },
+            settings: settings_of(straps.kind),
+            ptrs: Ptrs::default(),
             flags: sequence::no_flags(),
+            straps,
             walk: sequence::idle_walk(),
         }
-    }
-
-    // The head with an answer's number and nothing else.
-    pub fn answer(self, number: u8) -> Headed
-        ensures { result ≡ refused self number }
-    {
-        Headed {
-            head: self,
-            answer: Answer {
-                number,
-                value: 0,
-                action: Action::Nothing,
-            },
-        }
-    }
-
-    // The head with the value of a read.
-    pub fn reply(self, value: u8) -> Headed
-        ensures { result ≡ replied self value }
-    {
-        Headed {
-            head: self,
-            answer: Answer {
-                number: DONE,
-                value,
-                action: Action::Nothing,
-            },
-        }
-    }
-
-    // The head with an action.
-    pub fn act(self, action: Action) -> Headed
-        ensures { result ≡ acted self action }
-    {
-        Headed {
-            head: self,
-            answer: Answer {
-                number: DONE,
-                value: 0,
-                action,
-            },
-        }
-    }
-
-    pub(crate) fn with_walk(self, w: Walk) -> Head
-        ensures { result ≡ with_walk self w }
-    {
-        let mut h = self;
-        h.walk = w;
-        h
-    }
-
-    pub(crate) fn with_state(self, f: Flags, w: Walk) -> Head
-        ensures { result ≡ with_state self f w }
-    {
-        let mut h = self;
-        h.flags = f;
-        h.walk = w;
-        h
-    }
-
-    pub fn with_key(self, key: bool) -> Head
-        ensures { result ≡ with_key self key }
-    {
-        let mut h = self;
-        h.key = key;
-        h
-    }
-
-    pub(crate) fn with_flags(self, f: Flags) -> Head
-        ensures { result ≡ with_flags self f }
-    {
-        let mut h = self;
-        h.flags = f;
-        h
-    }
-}
-
-impl Headed {
-    // The same, put together anew: so the call that gave it writes to a place of its own, and what the other arms of a match give stays in registers.
-    pub fn anew(self) -> Headed
-        ensures { result ≡ self }
-    {
-        let head = self.head;
-        let answer = self.answer;
-        Headed { head, answer }
     }
 }

@@ -1,109 +1,96 @@
 // Document 01, 'A sequence on the wires': what needs no table.
 ghost use Rattle.std.specs.Prelude.{◌≡◌, ◌<◌};
-ghost use Rattle.head.specs.State.{plain};
-ghost use Rattle.head.specs.Head.{halt_of, kind_of, in_phase, idled, ended_by, frame_ended, stopped, clocked, noted, failed, late_by, faulted, turn_at};
+ghost use Rattle.head.specs.State.{headed};
+ghost use Rattle.head.specs.Head.{halt_of, kind_of, ended_by, frame_ended, stopped, clocked, noted, failed, late_by, faulted, turn_at};
 
-use crate::state::{Head, Headed};
-use rules::{Action, DONE, Event, FEMSK, Kind, Phase};
+use crate::state::{Answer, Head};
+use rules::{Action, Event, FEMSK, Kind, Phase};
 use sequence::{Ending, Fault, Turn};
 
 impl Head {
-    pub fn to_phase(self, phase: Phase) -> Head
-        ensures { result ≡ in_phase self phase }
+    pub fn halts(&self) -> bool
+        ensures { result ≡ halt_of self.now }
     {
-        let w = self.walk;
-        self.with_walk(sequence::to_phase(w, phase))
+        sequence::halted(self.walk.fe, self.walk.sto)
     }
 
-    pub fn to_idle(self) -> Head
-        ensures { result ≡ idled self }
+    pub fn kind(&self) -> Kind
+        ensures { result ≡ kind_of self.now }
     {
-        self.with_walk(sequence::idle_walk())
+        self.straps.kind
     }
 
-    pub fn halts(self) -> bool
-        ensures { result ≡ halt_of self }
+    #[tactic(auto, unfolding(crate::specs::Head::stopped))]
+    pub fn stop(&mut self, a: Action) -> Answer
+        ensures { headed self.new result ≡ stopped self.old a }
     {
-        let w = self.walk;
-        sequence::halted(w.fe, w.sto)
+        self.walk.phase = Phase::Stopping;
+        Answer::act(a)
     }
 
-    pub fn kind(self) -> Kind
-        ensures { result ≡ kind_of self }
-    {
-        let s = self.straps;
-        s.kind
-    }
-
-    pub fn stop(self, a: Action) -> Headed
-        ensures { result ≡ stopped self a }
-    {
-        self.to_phase(Phase::Stopping).act(a)
-    }
-
-    pub fn clock(self, n: usize) -> Headed
+    #[tactic(auto, unfolding(crate::specs::Head::clocked))]
+    pub fn clock(&mut self, n: usize) -> Answer
         requires { n < 64 }
-        ensures { result ≡ clocked self n }
+        ensures { headed self.new result ≡ clocked self.old n }
     {
-        self.to_phase(Phase::Receiving(n as u8)).act(Action::C)
+        self.walk.phase = Phase::Receiving(n as u8);
+        Answer::act(Action::C)
     }
 
-    pub fn note(self, read: bool) -> Head
-        ensures { result ≡ noted self read }
+    pub fn note(&mut self, read: bool)
+        ensures { self.new ≡ noted self.old read }
     {
-        let f = sequence::nack_flags(self.flags, read);
-        self.with_flags(f)
+        self.flags = sequence::nack_flags(self.flags, read);
     }
 
-    pub fn fail(self) -> Headed
-        ensures { result ≡ failed self }
+    #[tactic(auto, unfolding(crate::specs::Head::failed, crate::specs::Head::stopped))]
+    pub fn fail(&mut self) -> Answer
+        ensures { headed self.new result ≡ failed self.old }
     {
-        let w = self.walk;
-        self.with_walk(sequence::note_error(w)).act(Action::P)
+        self.walk.error = true;
+        self.stop(Action::P)
     }
 
-    pub fn be_late(self) -> Headed
-        ensures { result ≡ plain (late_by self) }
+    pub fn be_late(&mut self)
+        ensures { self.new ≡ late_by self.old }
     {
-        let w = self.walk;
         let femsk = rules::bit(self.regs.intmsk, FEMSK);
-        let f = sequence::late_flags(self.flags, femsk);
-        self.with_state(f, sequence::late_walk(w, femsk))
-            .answer(DONE)
+        self.flags = sequence::late_flags(self.flags, femsk);
+        self.walk = sequence::late_walk(self.walk, femsk);
     }
 
-    pub fn fault(self, f: Fault) -> Headed
-        ensures { result ≡ plain (faulted self f) }
+    pub fn fault(&mut self, f: Fault)
+        ensures { self.new ≡ faulted self.old f }
     {
-        let g = sequence::fault_flags(self.flags, f);
-        self.with_state(g, sequence::idle_walk()).answer(DONE)
+        self.flags = sequence::fault_flags(self.flags, f);
+        self.walk = sequence::idle_walk();
     }
 
     // ---- the frame's end
 
-    pub fn end_by(self, e: Ending) -> Headed
-        ensures { result ≡ plain (ended_by self e) }
+    pub fn end_by(&mut self, e: Ending)
+        ensures { self.new ≡ ended_by self.old e }
     {
-        let f = sequence::end_flags(self.flags, self.regs.te, self.settings.framecnt, e);
-        self.with_state(f, sequence::end_walk(e)).answer(DONE)
+        self.flags = sequence::end_flags(self.flags, self.regs.te, self.settings.framecnt, e);
+        self.walk = sequence::end_walk(e);
     }
 
-    pub fn end_frame(self) -> Headed
-        ensures { result ≡ plain (frame_ended self) }
+    #[tactic(auto, unfolding(crate::specs::Head::frame_ended))]
+    pub fn end_frame(&mut self)
+        ensures { self.new ≡ frame_ended self.old }
     {
         let w = self.walk;
         let rest = sequence::rest(self.regs.te, self.settings.framecnt, w.ended);
         let e = sequence::ends(w.fe, w.error, w.sto, w.seq, rest);
-        self.end_by(e)
+        self.end_by(e);
     }
 
     // ---- an event
 
-    pub fn turn_at(self, e: Event) -> Turn
-        ensures { result ≡ turn_at self e }
+    pub fn turn_at(&self, e: Event) -> Turn
+        ensures { result ≡ turn_at self.now e }
     {
-        let w = self.walk;
-        let p = w.phase;
-        sequence::turn_of(self.kind(), p, self.regs.te, self.settings.framecnt, e)
+        let framecnt = self.settings.framecnt;
+        sequence::turn_of(self.kind(), self.walk.phase, self.regs.te, framecnt, e)
     }
 }

@@ -1,5 +1,5 @@
 // Document 01, 'The part as the processor sees it': what CTRLINTMSK keeps, pending causes, and the interrupt; and BE, which no. 5 sets.
-#![tactic(auto)]
+#![tactic(auto, using(laws::specs::Cases::cases), unfolding(crate::specs::Interrupt::on_fm, crate::specs::Interrupt::be_after))]
 
 ghost use Rattle.std.specs.Prelude.{◌≡◌, ◌≤◌, eqb};
 ghost use Rattle.rules.specs.Registers.{weigh, chstatus_value};
@@ -28,7 +28,7 @@ const CH0MSK: u8 = 0x01;
 fn unless(cause: bool, masked: bool) -> bool
     ensures { result ≡ cause unless masked }
 {
-    if cause { !masked } else { false }
+    cause && !masked
 }
 
 // In place of a mask bit: DAE, CLE and SSE can't be masked.
@@ -45,17 +45,11 @@ fn on_fm(kind: Kind, masked: bool) -> bool
 fn some(rows: &[bool]) -> bool
     ensures { result ≡ some_of rows.now }
 {
-    let mut i = 0;
-    while i < rows.len() {
-        if rows[i] {
-            return true;
-        }
-        i += 1;
-    }
-    false
+    rows.iter().any(|&row| row)
 }
 
 // CHSTATUS beside INTMSK, bit 7 to bit 0.
+#[tactic(auto, using(crate::proofs::Laws::Interrupt::rows), unfolding(crate::specs::Interrupt::causes_of))]
 fn causes(kind: Kind, f: Flags, mask: u8) -> [bool; 8]
     ensures { result ≡ causes_of kind f mask }
 {
@@ -75,7 +69,7 @@ fn causes(kind: Kind, f: Flags, mask: u8) -> [bool; 8]
 fn number(flag: bool) -> u64
     ensures { (result ≡ weigh flag 1) × (result ≤ 1) }
 {
-    flag as u64
+    u64::from(flag)
 }
 
 // Whether CHSTATUS is 00h: no cause is set, masked or not. The flags stand side by side, so all eight are looked at as one word, which is quicker than one by one.
@@ -97,13 +91,11 @@ fn calm(f: Flags) -> bool
 pub fn pending(kind: Kind, f: Flags, mask: u8) -> bool
     ensures { result ≡ pending_of kind f mask }
 {
-    if calm(f) {
-        return false;
-    }
-    some(&causes(kind, f, mask))
+    !calm(f) && some(&causes(kind, f, mask))
 }
 
 // BE and the channels that are pending beside CTRLINTMSK, bit 7 and bits 2 to 0.
+#[tactic(auto, using(crate::proofs::Laws::Interrupt::rows), unfolding(crate::specs::Interrupt::pulls_of))]
 fn pulls(be: bool, mask: u8, ch0: bool, ch1: bool, ch2: bool) -> [bool; 4]
     ensures { result ≡ pulls_of be mask ch0 ch1 ch2 }
 {
@@ -116,6 +108,7 @@ fn pulls(be: bool, mask: u8, ch0: bool, ch1: bool, ch2: bool) -> [bool; 4]
 }
 
 // Whether INT is pulled, by BE, CTRLINTMSK and the channels that are pending.
+#[tactic(auto, using(crate::proofs::Laws::Interrupt::rows), unfolding(crate::specs::Interrupt::pulled_by))]
 pub fn pulled(be: bool, mask: u8, ch0: bool, ch1: bool, ch2: bool) -> bool
     ensures { result ≡ pulled_by be mask ch0 ch1 ch2 }
 {
@@ -126,7 +119,7 @@ pub fn pulled(be: bool, mask: u8, ch0: bool, ch1: bool, ch2: bool) -> bool
 pub fn be_after(be: bool, number: u8) -> bool
     ensures { result ≡ be_after be number }
 {
-    if number == PAST_BUFFER { true } else { be }
+    be || number == PAST_BUFFER
 }
 
 // Whether no bit of CTRLINTMSK that is kept 0 is set.

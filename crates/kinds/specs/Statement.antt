@@ -2,11 +2,9 @@
 -- and 4 have no effect. A reader has to believe this page, the page of what nobody answered (crate channel, specs/Unanswered.antt), `heeded` and `device_by` (crate
 -- rules, specs/Parts.antt), and the rules of a step that the contract of `Part::step` cites (crate part, specs/Step.antt). proofs/Theorem.antt says what is proved; the
 -- last line of each statement there and all of proofs/Laws/ are proof.
-use Rattle.std.specs.Prelude.{ℕ, ◌<◌, Bool, true, false, List, [], ◌∷◌, ◌≡◌}
+use Rattle.std.specs.Prelude.{ℕ, ◌<◌, Bool, true, false, List, [], ◌∷◌, ◌≡◌, Option, Some, None}
 use Rattle.rules.specs.declared.parts.Device.{Device}
 use Rattle.rules.specs.declared.parts.Kind.TheVariants.{Ufm}
-use Rattle.rules.specs.declared.registers.Place.{Place}
-use Rattle.rules.specs.declared.registers.Place.TheVariants.{Here, Elsewhere}
 use Rattle.rules.specs.declared.registers.Register.{Register}
 use Rattle.rules.specs.declared.registers.Register.TheVariants.{Status, Control, Chstatus, Intmsk, Slatable, Tranconfig, Data, Transel, Tranofs, Bytecount, Setting, Preset}
 use Rattle.rules.specs.Parts.{heeded}
@@ -89,9 +87,9 @@ is_intmsk Bytecount = false
 is_intmsk (Setting n) = false
 is_intmsk Preset = false
 
-abbrev pub mask_at : Place → Bool
-mask_at (Here reg) = is_intmsk reg
-mask_at Elsewhere = false
+abbrev pub mask_at : Option Register → Bool
+mask_at (Some reg) = is_intmsk reg
+mask_at None = false
 
 abbrev pub reads_mask : Target → Bool
 reads_mask (One (WriteOp a v) c) = false

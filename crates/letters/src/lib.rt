@@ -6,7 +6,7 @@ ghost use Rattle.letters.specs.Letters.{digit_of, one_letter, two_letters, one_a
 
 use rules::Action;
 
-// The first `len` of the bytes are the text, and the others are 0.
+// The first `len` of the bytes are the text, and the others are 0. A String would keep them on the heap, which no program here has.
 #[derive(Clone, Copy)]
 pub struct Text {
     pub bytes: [u8; 4],
@@ -14,11 +14,12 @@ pub struct Text {
 }
 
 // An upper-case hex digit.
+#[tactic(auto, using(laws::specs::Cases::cases), unfolding(crate::specs::Letters::digit_of))]
 pub fn digit(d: u8) -> u8
     requires { d < 16 }
     ensures { result ≡ digit_of d }
 {
-    if d < 10 { 48 + d } else { 55 + d }
+    if d < 10 { b'0' + d } else { b'A' - 10 + d }
 }
 
 fn one(x: u8) -> Text
@@ -42,10 +43,8 @@ fn two(x: u8, y: u8) -> Text
 fn one_and(x: u8, b: u8) -> Text
     ensures { (result ≡ one_and_byte x b) × (result.len ≤ 4) }
 {
-    let high = digit(b / 16);
-    let low = digit(b % 16);
     Text {
-        bytes: [x, high, low, 0],
+        bytes: [x, digit(b / 16), digit(b % 16), 0],
         len: 3,
     }
 }
@@ -53,10 +52,8 @@ fn one_and(x: u8, b: u8) -> Text
 fn two_and(x: u8, y: u8, b: u8) -> Text
     ensures { (result ≡ two_and_byte x y b) × (result.len ≤ 4) }
 {
-    let high = digit(b / 16);
-    let low = digit(b % 16);
     Text {
-        bytes: [x, y, high, low],
+        bytes: [x, y, digit(b / 16), digit(b % 16)],
         len: 4,
     }
 }

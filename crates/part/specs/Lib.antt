@@ -2,4 +2,4 @@ pub mod State
 pub mod Registers
 pub mod Step
 pub mod Facts
-pub mod Rows
+pub mod Quiet

@@ -1,17 +1,20 @@
 -- Words for the record of the part: the reset state, what a step answers, the record with a part replaced, a channel's record and its window.
-use Rattle.std.specs.Prelude.{ℕ, Bool, false, List, [], ◌∷◌, get_or, replicate}
+use Rattle.std.specs.Prelude.{ℕ, Bool, false, List, [], ◌∷◌, map, eqb, get_or, replicate, set}
+use Rattle.laws.specs.Pick.{when◌then◌else◌}
 use Rattle.laws.specs.Windows.{window_of, put_window_of}
 use Rattle.rules.specs.declared.parts.Device.{Device}
 use Rattle.rules.specs.declared.parts.Kind.TheVariants.{Fm}
 use Rattle.rules.specs.Numbers.{buffer_size, memory_size, done}
 use Rattle.rules.specs.Parts.{strapped, other_kind, device_by}
+use Rattle.sequence.specs.Walk.{idle, no_flags}
 use Rattle.steps.specs.declared.answer.Act.{Act}
+use Rattle.steps.specs.declared.answer.PartAnswer.{PartAnswer}
 use Rattle.steps.specs.Answer.{quiet}
+use Rattle.head.specs.declared.state.Head.{Head}
 use Rattle.head.specs.Head.{kind_of}
+use Rattle.head.specs.State.{with_key as head_keyed}
 use Rattle.channel.specs.declared.state.Channel.{Channel}
 use Rattle.channel.specs.State.{fresh, with_head}
-use Rattle.heads.specs.Heads.{blank_head, keyless_head, all_but, common_left}
-use Rattle.heads.specs.declared.Common.{Common}
 use Rattle.part.specs.declared.state.Part.{Part}
 use Rattle.part.specs.declared.state.PartStepped.{PartStepped}
 
@@ -30,10 +33,14 @@ fresh_part d = record {
   key = false;
 }
 
+-- ---- what a step gives: the part that it leaves, and its answer
+abbrev pub given : Part → PartAnswer → PartStepped
+given p a = record { part = p; answer = a }
+
 -- ---- what a step answers: number, value, an action for each channel
 
 abbrev pub told : Part → ℕ → ℕ → List Act → PartStepped
-told p n v acts = record { part = p; answer = record { number = n; value = v; actions = acts } }
+told p n v acts = given p (record { number = n; value = v; actions = acts })
 
 -- only a read answered 0 carries a value, else it is 00h; every answer but 0 has no action
 abbrev pub refused_part : Part → ℕ → PartStepped
@@ -60,6 +67,17 @@ with_key p k = record { channels = p.channels; be = p.be; mask = p.mask; key = k
 -- ---- channel c: its record, and its 4,352 bytes, from 4,352 times its number
 
 -- what stands past the third channel, where nothing reads
+abbrev pub blank_head : Head
+blank_head = record {
+  regs = record { intmsk = 0; transel = 0; tranofs = 0; tp = false; te = false };
+  key = false;
+  straps = strapped Fm;
+  settings = record { framecnt = 0; refrate = 0; scll = 0; sclh = 0; mode = 0; timeout = 0 };
+  ptrs = record { sla = 0; conf = 0; buf = 0; count = 0 };
+  flags = no_flags;
+  walk = idle;
+}
+
 abbrev pub blank : Channel
 blank = record {
   head = blank_head;
@@ -76,10 +94,6 @@ chan p c = get_or p.channels c blank
 abbrev pub device_of : Part → Device
 device_of p = device_by (kind_of (chan p 1).head)
 
--- what the part has beside its channels
-abbrev pub common_of : Part → Common
-common_of p = record { be = p.be; mask = p.mask; key = p.key }
-
 -- channel c's own 4,352 bytes, from 4,352 times its number
 unfoldable pub window : ℕ → List ℕ → List ℕ
 window c m = window_of buffer_size c m
@@ -92,8 +106,17 @@ put_window c l m = put_window_of buffer_size c l m
 
 -- a channel with no A5h pending
 abbrev pub keyless : Channel → Channel
-keyless c = with_head c (keyless_head c.head)
+keyless c = with_head c (head_keyed c.head false)
+
+-- f done to all but number c
+abbrev pub all_but : {A : Type 0} → (A → A) → A → List A → ℕ → List A
+all_but f d l c = set (map f l) c (get_or l c d)
 
 -- every pending A5h forgotten but number c: channel c's, or for c 3 CTRLPRESET's
 abbrev pub forgotten : Part → ℕ → Part
-forgotten p c = record { channels = all_but keyless blank p.channels c; be = p.be; mask = p.mask; key = (common_left (common_of p) c).key }
+forgotten p c = record {
+  channels = all_but keyless blank p.channels c;
+  be = p.be;
+  mask = p.mask;
+  key = when eqb c 3 then p.key else false;
+}

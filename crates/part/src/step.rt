@@ -1,106 +1,106 @@
 // One step of the part: of one channel, of the whole part, or of none.
 ghost use Rattle.std.specs.Prelude.{true, ◌≡◌, ◌<◌};
-ghost use Rattle.part.specs.Registers.{interrupt_of};
-ghost use Rattle.part.specs.Step.{channels_in, own_kinds, part_in, accepts, part_step, part_bytes};
+ghost use Rattle.steps.specs.Facts.{InPart};
+ghost use Rattle.part.specs.State.{given};
+ghost use Rattle.part.specs.Step.{part_in, one_step, one_bytes, trigger_step, all_served, all_stored, forgetting, part_served, part_stored, part_step, part_bytes};
 ghost use Rattle.part.specs.Facts.{Whole};
 
-use crate::rows::{gather, interrupt_level, serve, spread};
 use crate::state::{Part, PartStepped};
-use bounds::kinds_in;
-use interrupt::mask_in;
-use rules::{MEMORY, OUT_OF_RANGE};
-use steps::{Step, target_of};
+use interrupt::be_after;
+use rules::{BUFFER, DONE, Edge, OUT_OF_RANGE, Refusal};
+use steps::{
+    Act, Op, PartAnswer, Step, Target, Wide, act_at, no_acts, op_writes, target_of, wide_writes,
+};
 
 impl Part {
-    fn channels_in(self) -> bool
-        ensures { result ≡ channels_in self.channels }
+    // A step of channel c, on its own 4,352 bytes. A frame that doesn't fit shows as BE.
+    fn one(&mut self, mem: &mut [u8], c: u8, op: Op) -> PartAnswer
+        requires { Whole self.old mem.old × (c < 3) }
+        ensures { (given self.new result ≡ one_step self.old mem.old c op) × (mem.new ≡ one_bytes self.old mem.old c op) }
     {
-        let channels = self.channels;
-        let mut i = 0;
-        while i < 3 {
-            let s = channels[i];
-            if !s.in_range() {
-                return false;
+        let i = c as usize;
+        let start = BUFFER * i;
+        let a = self.channels[i].serve(c, &mut mem[start..start + BUFFER], op);
+        self.be = be_after(self.be, a.number);
+        PartAnswer {
+            number: a.number,
+            value: a.value,
+            actions: act_at(c, a.action),
+        }
+    }
+
+    // A trigger edge over all three channels, with an action for each.
+    fn trigger(&mut self, edge: Edge) -> PartAnswer
+        requires { part_in self.old ≡ true }
+        ensures { given self.new result ≡ trigger_step self.old edge }
+    {
+        let mut actions = no_acts();
+        for c in 0..3 {
+            let a = self.channels[c].trigger(edge);
+            self.be = be_after(self.be, a.number);
+            actions[c] = Act { action: a.action };
+        }
+        PartAnswer {
+            number: DONE,
+            value: 0,
+            actions,
+        }
+    }
+
+    // A step of the whole part.
+    #[tactic(auto, unfolding(crate::specs::Step::all_served, crate::specs::Step::all_stored))]
+    fn all(&mut self, mem: &mut [u8], t: Wide) -> PartAnswer
+        requires { Whole self.old mem.old }
+        ensures { (given self.new result ≡ all_served self.old t) × (mem.new ≡ all_stored self.old mem.old t) }
+    {
+        match t {
+            Wide::CtrlWrite(reg, v) => self.put_ctrl(mem, reg, v),
+            Wide::CtrlRead(reg) => self.read_ctrl(reg),
+            Wide::AllTrigger(edge) => self.trigger(edge),
+            Wide::AllReset(d) => self.reset(mem, d),
+            Wide::Beyond => PartAnswer::refused(Refusal::Nowhere),
+        }
+    }
+
+    // Any write to the part, refused or not, forgets every pending A5h but its own register's.
+    #[tactic(auto, using(laws::specs::Cases::cases), unfolding(crate::specs::Step::forgetting))]
+    fn forget(&mut self, t: Target)
+        ensures { self.new ≡ forgetting t self.old }
+    {
+        match t {
+            Target::One(op, c) => {
+                if op_writes(op) {
+                    self.forget_but(c);
+                }
             }
-            i += 1;
-        }
-        true
-    }
-
-    // Whether the channels' kinds are those of one part.
-    fn own_kinds(self) -> bool
-        ensures { result ≡ own_kinds self }
-    {
-        let channels = self.channels;
-        let first = channels[0];
-        let second = channels[1];
-        let third = channels[2];
-        let a = first.head;
-        let b = second.head;
-        let d = third.head;
-        kinds_in(a.kind(), b.kind(), d.kind())
-    }
-
-    // Whether the part is in range: each channel, CTRLINTMSK, and the kinds.
-    pub fn in_range(self) -> bool
-        ensures { result ≡ part_in self }
-    {
-        if self.channels_in() {
-            if mask_in(self.mask) {
-                self.own_kinds()
-            } else {
-                false
+            Target::All(w) => {
+                if wide_writes(w) {
+                    self.forget_but(3);
+                }
             }
-        } else {
-            false
         }
     }
 
-    // Whether no. 9 does not refuse the part with a memory of this length.
-    pub fn accepts_len(self, len: usize) -> bool
-        ensures { result ≡ accepts self len }
+    // A step of a part and a memory that no. 9 does not refuse, by whom it concerns. What it forgets comes first.
+    pub fn serve(&mut self, mem: &mut [u8], t: Target) -> PartAnswer
+        requires { Whole self.old mem.old × InPart t }
+        ensures { (given self.new result ≡ part_served self.old mem.old t) × (mem.new ≡ part_stored self.old mem.old t) }
     {
-        if len == MEMORY {
-            self.in_range()
-        } else {
-            false
+        self.forget(t);
+        match t {
+            Target::One(op, c) => self.one(mem, c, op),
+            Target::All(w) => self.all(mem, w),
         }
-    }
-
-    // A step of a part and a memory that no. 9 does not refuse: the part is taken apart for it, and put together again.
-    fn advance(self, mem: &mut [u8], s: Step) -> PartStepped
-        requires { Whole self mem.old }
-        ensures { (result ≡ part_step self mem.old s) × (mem.new ≡ part_bytes self mem.old s) }
-    {
-        let mut sla = [[0u8; 64]; 3];
-        let mut lens = [[0u8; 65]; 3];
-        let mut status = [[0u8; 64]; 3];
-        let mut counts = [[0u8; 64]; 3];
-        let h = spread(self, &mut sla, &mut lens, &mut status, &mut counts);
-        let t = target_of(s);
-        let r = serve(h, &mut sla, &mut lens, &mut status, &mut counts, mem, t);
-        let g = r.heads;
-        let answer = r.answer;
-        PartStepped {
-            part: gather(g, &sla, &lens, &status, &counts),
-            answer,
-        }
-    }
-
-    // Whether INT is pulled.
-    pub fn interrupt(self) -> bool
-        ensures { result ≡ interrupt_of self }
-    {
-        interrupt_level(self.heads())
     }
 
     // One step of the part, at any record and any memory.
-    pub fn step(self, mem: &mut [u8], s: Step) -> PartStepped
+    pub fn step(mut self, mem: &mut [u8], s: Step) -> PartStepped
         ensures { (result ≡ part_step self mem.old s) × (mem.new ≡ part_bytes self mem.old s) }
     {
         if !self.accepts_len(mem.len()) {
             return self.answer(OUT_OF_RANGE);
         }
-        self.advance(mem, s)
+        let answer = self.serve(mem, target_of(s));
+        PartStepped { part: self, answer }
     }
 }

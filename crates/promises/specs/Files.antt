@@ -1,5 +1,5 @@
 -- No second outcome of crate files: a statement for each public function.
-use Rattle.std.specs.Prelude.{ℕ, List, ◌≡◌}
+use Rattle.std.specs.Prelude.{ℕ, List, Result, ◌≡◌}
 use Rattle.channel.specs.declared.state.Channel.{Channel}
 use Rattle.channel.specs.declared.state.Stepped.{Stepped}
 use Rattle.part.specs.declared.state.Part.{Part}
@@ -11,7 +11,7 @@ use Rattle.files.specs.Deeds.{load_work, save_work}
 use Rattle.promises.specs.Promise.{Once, no_second, both}
 
 -- ---- format.rt
-pub fault_of_once : (file : List ℕ) → Once Fault (λ r. r ≡ fault_of file)
+pub fault_of_once : (file : List ℕ) → Once (Result (Unit {0}) Fault) (λ r. r ≡ fault_of file)
 fault_of_once file = no_second (λ r h. h)
 
 -- ---- single.rt

@@ -6,7 +6,6 @@ pub mod Sequence
 pub mod Steps
 pub mod Head
 pub mod Channel
-pub mod Heads
 pub mod Part
 pub mod Script
 pub mod Letters

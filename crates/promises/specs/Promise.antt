@@ -1,8 +1,10 @@
 -- Document 01, 'How tight the promises are': no second outcome satisfies the same promise. The files beside this one say it of each public function,
--- by its `ensures` clause, letter by letter: what is lent as `mem` is written for its value at entry, and `mem'` for that at exit. A word that takes what is
--- lent whole stands as its definition: `rows_left sla ..` as `as_rows sla' ..`.
-use Rattle.std.specs.Prelude.{◌≡◌}
+-- by its `ensures` clause, letter by letter: what is lent as `mem` is written for its value at entry, and `mem'` for that at exit.
+use Rattle.std.specs.Prelude.{ℕ, Result, ◌≡◌}
 use Rattle.std.proofs.Common.{◌∙◌, sym}
+use Rattle.rules.specs.declared.numbers.Refusal.{Refusal}
+use Rattle.rules.specs.Numbers.{number_of}
+use Rattle.rules.proofs.Laws.Numbers.{number_tells}
 
 -- the promise P of an outcome in A is met once: two outcomes that satisfy it are equal
 abbrev pub Once : (A : Type 0) → (A → Type 0) → Type 0
@@ -19,3 +21,7 @@ both p q = λ i. (p i, q i)
 -- of three: what is returned, and two that were lent
 pub three : {A B C : Type 0} {o : A × B × C} {x : A} {y : B} {z : C} → o.0 ≡ x → o.1 ≡ y → o.2 ≡ z → o ≡ (x, y, z)
 three p q r = λ i. (p i, q i, r i)
+
+-- an outcome that may refuse has a number of its own
+pub no_second_number : {n : ℕ} → Once (Result (Unit {0}) Refusal) (λ r. number_of r ≡ n)
+no_second_number r r' p p' = number_tells r r' (p ∙ sym p')

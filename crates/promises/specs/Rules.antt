@@ -1,52 +1,59 @@
 -- No second outcome of crate rules: a statement for each public function.
-use Rattle.std.specs.Prelude.{ℕ, ◌<◌, ◌≤◌, ◌*◌, Bool, List, ◌≡◌, length, replicate}
+use Rattle.std.specs.Prelude.{ℕ, ◌<◌, ◌≤◌, ◌*◌, Bool, List, Option, Result, ◌≡◌, length, replicate}
+use Rattle.rules.specs.declared.numbers.Refusal.{Refusal}
 use Rattle.rules.specs.declared.parts.Device.{Device}
 use Rattle.rules.specs.declared.parts.Kind.{Kind}
 use Rattle.rules.specs.declared.registers.Command.{Command}
-use Rattle.rules.specs.declared.registers.Place.{Place}
 use Rattle.rules.specs.declared.registers.Register.{Register}
 use Rattle.rules.specs.declared.state.Flags.{Flags}
-use Rattle.rules.specs.declared.access.Spot.{Spot}
 use Rattle.rules.specs.declared.tags.Tag.{Tag}
-use Rattle.rules.specs.declared.tags.Decoded.{Decoded}
 use Rattle.rules.specs.declared.state.Phase.{Phase}
 use Rattle.rules.specs.declared.wires.Action.{Action}
+use Rattle.rules.specs.declared.wires.Event.{Event}
 use Rattle.rules.specs.Access.{busy_refusal, past_refusal, place_refusal, sla_refusal, conf_refusal, spot_of, spot_refusal, data_refusal, sel_refusal}
 use Rattle.rules.specs.Access.{kept_if, rewound, pointed_at, overrun_of, preset_of, key_after, resets_of}
 use Rattle.rules.specs.Facts.{Configured, KnownPlace}
+use Rattle.rules.specs.Numbers.{refusal_number, number_of}
 use Rattle.rules.specs.Parts.{is_fm, other_kind, device_by, device_id}
 use Rattle.rules.specs.Registers.{place_of, active_of, bit_of, command_of, weigh, control_value, chstatus_value, mask_kept}
 use Rattle.rules.specs.Tables.{start_of, fitting, reads_of, skipped_of, first_sent, marked}
 use Rattle.rules.specs.Tags.{tag, action_tag, event_of}
-use Rattle.promises.specs.Promise.{Once, no_second}
+use Rattle.promises.specs.Promise.{Once, no_second, no_second_number}
+
+-- ---- numbers.rt
+pub number_once : (self : Refusal) → Once ℕ (λ r. r ≡ refusal_number self)
+number_once self = no_second (λ r h. h)
+
+pub number_of_once : (outcome : Result (Unit {0}) Refusal) → Once ℕ (λ r. r ≡ number_of outcome)
+number_of_once outcome = no_second (λ r h. h)
 
 -- ---- access.rt
-pub busy_refusal_once : (p : Phase) → Once ℕ (λ r. r ≡ busy_refusal p)
-busy_refusal_once p = no_second (λ r h. h)
+pub busy_refusal_once : (p : Phase) → Once (Result (Unit {0}) Refusal) (λ r. number_of r ≡ busy_refusal p)
+busy_refusal_once p = no_second_number
 
-pub past_refusal_once : (last at : ℕ) → Once ℕ (λ r. r ≡ past_refusal last at)
-past_refusal_once last at = no_second (λ r h. h)
+pub past_refusal_once : (last at : ℕ) → Once (Result (Unit {0}) Refusal) (λ r. number_of r ≡ past_refusal last at)
+past_refusal_once last at = no_second_number
 
-pub place_refusal_once : (at : ℕ) → Once ℕ (λ r. r ≡ place_refusal at)
-place_refusal_once at = no_second (λ r h. h)
+pub place_refusal_once : (at : ℕ) → Once (Result (Unit {0}) Refusal) (λ r. number_of r ≡ place_refusal at)
+place_refusal_once at = no_second_number
 
-pub sla_refusal_once : (p : Phase) (at : ℕ) → Once ℕ (λ r. r ≡ sla_refusal p at)
-sla_refusal_once p at = no_second (λ r h. h)
+pub sla_refusal_once : (p : Phase) (at : ℕ) → Once (Result (Unit {0}) Refusal) (λ r. number_of r ≡ sla_refusal p at)
+sla_refusal_once p at = no_second_number
 
-pub conf_refusal_once : (p : Phase) (at v : ℕ) → Once ℕ (λ r. r ≡ conf_refusal p at v)
-conf_refusal_once p at v = no_second (λ r h. h)
+pub conf_refusal_once : (p : Phase) (at v : ℕ) → Once (Result (Unit {0}) Refusal) (λ r. number_of r ≡ conf_refusal p at v)
+conf_refusal_once p at v = no_second_number
 
-pub find_place_once : (lens : List ℕ) (at : ℕ) → Once Spot (λ r. (r ≡ spot_of lens at) × Configured lens r)
+pub find_place_once : (lens : List ℕ) (at : ℕ) → Once (Option ℕ) (λ r. (r ≡ spot_of lens at) × Configured lens r)
 find_place_once lens at = no_second (λ r h. h.0)
 
-pub spot_refusal_once : (s : Spot) → Once ℕ (λ r. r ≡ spot_refusal s)
-spot_refusal_once s = no_second (λ r h. h)
+pub spot_refusal_once : (s : Option ℕ) → Once (Result (Unit {0}) Refusal) (λ r. number_of r ≡ spot_refusal s)
+spot_refusal_once s = no_second_number
 
-pub data_refusal_once : (p : Phase) (s : Spot) → Once ℕ (λ r. r ≡ data_refusal p s)
-data_refusal_once p s = no_second (λ r h. h)
+pub data_refusal_once : (p : Phase) (s : Option ℕ) → Once (Result (Unit {0}) Refusal) (λ r. number_of r ≡ data_refusal p s)
+data_refusal_once p s = no_second_number
 
-pub sel_refusal_once : (lens : List ℕ) (v : ℕ) → Once ℕ (λ r. r ≡ sel_refusal lens v)
-sel_refusal_once lens v = no_second (λ r h. h)
+pub sel_refusal_once : (lens : List ℕ) (v : ℕ) → Once (Result (Unit {0}) Refusal) (λ r. number_of r ≡ sel_refusal lens v)
+sel_refusal_once lens v = no_second_number
 
 pub kept_if_once : (active old new : Bool) → Once Bool (λ r. r ≡ kept_if active old new)
 kept_if_once active old new = no_second (λ r h. h)
@@ -83,7 +90,7 @@ pub device_id_once : (d : Device) → Once ℕ (λ r. r ≡ device_id d)
 device_id_once d = no_second (λ r h. h)
 
 -- ---- registers.rt
-pub place_of_once : (c a : ℕ) → Once Place (λ r. (r ≡ place_of c a) × KnownPlace r)
+pub place_of_once : (c a : ℕ) → Once (Option Register) (λ r. (r ≡ place_of c a) × KnownPlace r)
 place_of_once c a = no_second (λ r h. h.0)
 
 pub active_once : (p : Phase) → Once Bool (λ r. r ≡ active_of p)
@@ -136,5 +143,5 @@ wipe_once mem = no_second (λ r h. h)
 pub action_tag_once : (a : Action) → Once Tag (λ r. r ≡ action_tag a)
 action_tag_once a = no_second (λ r h. h)
 
-pub event_of_once : (kind value : ℕ) → Once Decoded (λ r. r ≡ event_of (tag kind value))
+pub event_of_once : (kind value : ℕ) → Once (Option Event) (λ r. r ≡ event_of (tag kind value))
 event_of_once kind value = no_second (λ r h. h)

@@ -19,7 +19,7 @@ use Rattle.sequence.specs.declared.wires.Next.{Next}
 use Rattle.sequence.specs.declared.wires.Tail.{Tail}
 use Rattle.sequence.specs.declared.wires.Turn.{Turn}
 use Rattle.sequence.specs.Facts.{Exists, Ready}
-use Rattle.sequence.specs.Walk.{idle, waiting, to_phase, sto_recorded, seq_recorded, error_noted, no_flags, nack_flags, fault_flags, late_flags, late_walk, end_flags, end_walk}
+use Rattle.sequence.specs.Walk.{idle, waiting, no_flags, nack_flags, fault_flags, late_flags, late_walk, end_flags, end_walk}
 use Rattle.sequence.specs.Wires.{turn_of, edge_beat, halted_of, reach_of, move_of, next_of, stop_by, again_by, masked_of, beginning_of, rest_of, ending_of, ask_of}
 use Rattle.promises.specs.Promise.{Once, no_second}
 
@@ -29,18 +29,6 @@ idle_walk_once = no_second (λ r h. h)
 
 pub waiting_walk_once : (ended : ℕ) → Once Walk (λ r. r ≡ waiting ended)
 waiting_walk_once ended = no_second (λ r h. h)
-
-pub to_phase_once : (w : Walk) (phase : Phase) → Once Walk (λ r. r ≡ to_phase w phase)
-to_phase_once w phase = no_second (λ r h. h)
-
-pub record_sto_once : (w : Walk) → Once Walk (λ r. r ≡ sto_recorded w)
-record_sto_once w = no_second (λ r h. h)
-
-pub record_seq_once : (w : Walk) → Once Walk (λ r. r ≡ seq_recorded w)
-record_seq_once w = no_second (λ r h. h)
-
-pub note_error_once : (w : Walk) → Once Walk (λ r. r ≡ error_noted w)
-note_error_once w = no_second (λ r h. h)
 
 pub no_flags_once : Once Flags (λ r. r ≡ no_flags)
 no_flags_once = no_second (λ r h. h)

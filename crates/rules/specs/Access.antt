@@ -1,10 +1,8 @@
 -- Document 01, 'Numbers that an answer carries': the numbers that refuse an access to a register, where the pointers go, and the reset key.
-use Rattle.std.specs.Prelude.{ℕ, Bool, true, false, List, eqb, ltb, leb}
+use Rattle.std.specs.Prelude.{ℕ, Bool, true, false, List, Option, Some, None, eqb, ltb, leb}
 use Rattle.laws.specs.Pick.{when◌then◌else◌}
 use Rattle.rules.specs.declared.state.Phase.{Phase}
 use Rattle.rules.specs.declared.state.Phase.TheVariants.{Idle, Address, Sending, Receiving, Stopping, Waiting}
-use Rattle.rules.specs.declared.access.Spot.{Spot}
-use Rattle.rules.specs.declared.access.Spot.TheVariants.{At, Outside}
 use Rattle.rules.specs.declared.registers.Register.{Register}
 use Rattle.rules.specs.declared.registers.Register.TheVariants.{Status, Control, Chstatus, Intmsk, Slatable, Tranconfig, Data, Transel, Tranofs, Bytecount, Setting, Preset}
 use Rattle.rules.specs.Numbers.{buffer_size, done, locked, past_table, past_buffer, many_transactions}
@@ -53,16 +51,16 @@ unfoldable pub sel_refusal : List ℕ → ℕ → ℕ
 sel_refusal lens v = when ltb 63 v then past_buffer else place_refusal (start_of lens v)
 
 -- DATA uses its own pointer: the place at which it stands, one of the buffer and configured. With a sum above 4,352 both limits hold
-unfoldable pub spot_of : List ℕ → ℕ → Spot
-spot_of lens at = when ltb at buffer_size then (when configured_at lens at then At at else Outside) else Outside
+unfoldable pub spot_of : List ℕ → ℕ → Option ℕ
+spot_of lens at = when ltb at buffer_size then (when configured_at lens at then Some at else None) else None
 
 -- DATA at 4,352, or at a place that is not configured: no. 5
-abbrev pub spot_refusal : Spot → ℕ
-spot_refusal (At i) = done
-spot_refusal Outside = past_buffer
+abbrev pub spot_refusal : Option ℕ → ℕ
+spot_refusal (Some i) = done
+spot_refusal None = past_buffer
 
 -- a write to DATA: no. 3, no. 5
-unfoldable pub data_refusal : Phase → Spot → ℕ
+unfoldable pub data_refusal : Phase → Option ℕ → ℕ
 data_refusal p s = when active_of p then locked else spot_refusal s
 
 -- ---- AIPTRRST and BPTRRST

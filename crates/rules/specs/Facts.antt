@@ -1,12 +1,8 @@
 -- Facts that functions hand to each other, beside what they return. Nobody has to believe them: each is proved where it is promised.
-use Rattle.std.specs.Prelude.{ℕ, ◌<◌, ◌≤◌, Bool, List, ◌≡◌, get_or}
+use Rattle.std.specs.Prelude.{ℕ, ◌<◌, ◌≤◌, Bool, List, Option, Some, None, ◌≡◌, get_or}
 use Rattle.rules.specs.declared.parts.Kind.{Kind}
 use Rattle.rules.specs.declared.registers.Register.{Register}
 use Rattle.rules.specs.declared.registers.Register.TheVariants.{Status, Control, Chstatus, Intmsk, Slatable, Tranconfig, Data, Transel, Tranofs, Bytecount, Setting, Preset}
-use Rattle.rules.specs.declared.registers.Place.{Place}
-use Rattle.rules.specs.declared.registers.Place.TheVariants.{Here, Elsewhere}
-use Rattle.rules.specs.declared.access.Spot.{Spot}
-use Rattle.rules.specs.declared.access.Spot.TheVariants.{At, Outside}
 use Rattle.rules.specs.Numbers.{buffer_size}
 use Rattle.rules.specs.Tables.{longest_skipped, skipped_of, sum_of}
 
@@ -26,14 +22,14 @@ Known (Setting n) = n < 6
 Known Preset = Unit {0}
 
 -- a register found at an address is one of them
-abbrev pub KnownPlace : Place → Type 0
-KnownPlace (Here r) = Known r
-KnownPlace Elsewhere = Unit {0}
+abbrev pub KnownPlace : Option Register → Type 0
+KnownPlace (Some r) = Known r
+KnownPlace None = Unit {0}
 
 -- a place that is found is one of the buffer, and configured: below the sum of the first count lengths
-abbrev pub Configured : List ℕ → Spot → Type 0
-Configured lens (At i) = (i < buffer_size) × (i < sum_of lens)
-Configured lens Outside = Unit {0}
+abbrev pub Configured : List ℕ → Option ℕ → Type 0
+Configured lens (Some i) = (i < buffer_size) × (i < sum_of lens)
+Configured lens None = Unit {0}
 
 -- whether a transaction is skipped, told by the longest read that is
 abbrev pub Skips : ℕ → ℕ → ℕ → Bool → Type 0

@@ -1,5 +1,7 @@
 -- Document 01's sizes, STATUS values and answer numbers, each by its name.
-use Rattle.std.specs.Prelude.{ℕ}
+use Rattle.std.specs.Prelude.{ℕ, Result, Ok, Err}
+use Rattle.rules.specs.declared.numbers.Refusal.{Refusal}
+use Rattle.rules.specs.declared.numbers.Refusal.TheVariants.{Nowhere, ReadOnly, Locked, PastTable, PastBuffer, ManyTransactions, NotAwaited, Unreadable, OutOfRange, NotAFile, NoRoom}
 
 -- ---- sizes
 
@@ -74,3 +76,31 @@ unreadable = 8
 -- lent memory not 13,056 bytes, or a state out of range
 abbrev pub out_of_range : ℕ
 out_of_range = 9
+
+-- document 02, request Five: bytes that are no sequence file
+abbrev pub not_a_file : ℕ
+not_a_file = 10
+
+-- a sequence that the lent bytes have no room for
+abbrev pub no_room : ℕ
+no_room = 11
+
+-- ---- a refusal, and the number that it has
+
+abbrev pub refusal_number : Refusal → ℕ
+refusal_number Nowhere = nowhere
+refusal_number ReadOnly = read_only
+refusal_number Locked = locked
+refusal_number PastTable = past_table
+refusal_number PastBuffer = past_buffer
+refusal_number ManyTransactions = many_transactions
+refusal_number NotAwaited = not_awaited
+refusal_number Unreadable = unreadable
+refusal_number OutOfRange = out_of_range
+refusal_number NotAFile = not_a_file
+refusal_number NoRoom = no_room
+
+-- what an answer carries: done, or the number of what was refused
+abbrev pub number_of : Result (Unit {0}) Refusal → ℕ
+number_of (Ok t) = done
+number_of (Err e) = refusal_number e

@@ -1,5 +1,5 @@
 -- Document 01, 'The part as the processor sees it': a channel's registers, and the bits of CONTROL, CHSTATUS and INTMSK.
-use Rattle.std.specs.Prelude.{ℕ, ◌+◌, ◌-◌, ◌*◌, ◌/◌, ◌%◌, Bool, true, false, eqb, ltb}
+use Rattle.std.specs.Prelude.{ℕ, ◌+◌, ◌-◌, ◌*◌, ◌/◌, ◌%◌, Bool, true, false, Option, Some, None, eqb, ltb}
 use Rattle.laws.specs.Pick.{when◌then◌else◌}
 use Rattle.rules.specs.declared.state.Phase.{Phase}
 use Rattle.rules.specs.declared.state.Phase.TheVariants.{Idle, Address, Sending, Receiving, Stopping, Waiting}
@@ -7,12 +7,10 @@ use Rattle.rules.specs.declared.state.Flags.{Flags}
 use Rattle.rules.specs.declared.registers.Command.{Command}
 use Rattle.rules.specs.declared.registers.Register.{Register}
 use Rattle.rules.specs.declared.registers.Register.TheVariants.{Status, Control, Chstatus, Intmsk, Slatable, Tranconfig, Data, Transel, Tranofs, Bytecount, Setting, Preset}
-use Rattle.rules.specs.declared.registers.Place.{Place}
-use Rattle.rules.specs.declared.registers.Place.TheVariants.{Here, Elsewhere}
 
 -- 64c + n: STATUS n of channel c
-unfoldable pub status_place : ℕ → ℕ → Place
-status_place c a = when eqb (a / 64) c then Here (Status (a % 64)) else Elsewhere
+unfoldable pub status_place : ℕ → ℕ → Option Register
+status_place c a = when eqb (a / 64) c then Some (Status (a % 64)) else None
 
 -- +0 to +8: CONTROL, CHSTATUS, INTMSK, SLATABLE, TRANCONFIG, DATA, TRANSEL, TRANOFS, BYTECOUNT
 unfoldable pub table_at : ℕ → Register
@@ -35,12 +33,12 @@ unfoldable pub register_at : ℕ → Register
 register_at n = when ltb 0x8 n then setting_at n else table_at n
 
 -- C0h, D0h, E0h: of channel c
-unfoldable pub register_place : ℕ → ℕ → Place
-register_place c a = when eqb (a / 16) (12 + c) then Here (register_at (a % 16)) else Elsewhere
+unfoldable pub register_place : ℕ → ℕ → Option Register
+register_place c a = when eqb (a / 16) (12 + c) then Some (register_at (a % 16)) else None
 
 -- what stands at address a for channel c, 0 to 2
-unfoldable pub place_of : ℕ → ℕ → Place
-place_of c a = when ltb 2 c then Elsewhere else when ltb a 0xC0 then status_place c a else register_place c a
+unfoldable pub place_of : ℕ → ℕ → Option Register
+place_of c a = when ltb 2 c then None else when ltb a 0xC0 then status_place c a else register_place c a
 
 -- the bit of weight w
 abbrev pub bit_of : ℕ → ℕ → Bool

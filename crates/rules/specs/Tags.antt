@@ -1,5 +1,5 @@
 -- Document 02, request Eleven: the kinds by which a capture names actions and events. This is the one table of such numbers.
-use Rattle.std.specs.Prelude.{ℕ, Bool, false, List, [], ◌∷◌, eqb}
+use Rattle.std.specs.Prelude.{ℕ, Bool, false, List, [], ◌∷◌, Option, Some, None, eqb}
 use Rattle.laws.specs.Pick.{when◌then◌else◌}
 use Rattle.rules.specs.declared.wires.Action.{Action}
 use Rattle.rules.specs.declared.wires.Action.TheVariants.{Nothing, S, R, D, C, A, Np, Nr, P}
@@ -7,8 +7,6 @@ use Rattle.rules.specs.declared.wires.Event.{Event}
 use Rattle.rules.specs.declared.wires.Event.TheVariants.{Ninth, Byte, Tick, Stop, Sda, Scl, Ill, Sent}
 use Rattle.rules.specs.declared.wires.Level.TheVariants.{Low, High}
 use Rattle.rules.specs.declared.tags.Tag.{Tag}
-use Rattle.rules.specs.declared.tags.Decoded.{Decoded}
-use Rattle.rules.specs.declared.tags.Decoded.TheVariants.{Known, NoEvent}
 
 -- an entry's kind and value
 abbrev pub tag : ℕ → ℕ → Tag
@@ -45,12 +43,12 @@ unfoldable pub same_tag : Tag → Tag → Bool
 same_tag t u = when eqb t.kind u.kind then eqb t.value u.value else false
 
 -- an event, if the tag is its own
-unfoldable pub known_as : Tag → Event → Decoded → Decoded
-known_as t e rest = when same_tag t (event_tag e) then Known e else rest
+unfoldable pub known_as : Tag → Event → Option Event → Option Event
+known_as t e rest = when same_tag t (event_tag e) then Some e else rest
 
 -- the first of some events whose own tag it is
-abbrev pub among : Tag → List Event → Decoded
-among t [] = NoEvent
+abbrev pub among : Tag → List Event → Option Event
+among t [] = None
 among t (e ∷ l) = known_as t e (among t l)
 
 -- all events, BYTE with the byte v
@@ -58,9 +56,9 @@ abbrev pub events_with : ℕ → List Event
 events_with v = Ninth Low ∷ Byte v ∷ Ninth High ∷ Tick ∷ Stop ∷ Sda ∷ Scl ∷ Ill ∷ Sent ∷ []
 
 -- an action's kind, an unknown kind and a value where none belongs are no event's
-abbrev pub event_of : Tag → Decoded
+abbrev pub event_of : Tag → Option Event
 event_of t = among t (events_with t.value)
 
 -- of a kind that carries no value: its event, if the value beside it is 0
-unfoldable pub plain_of : Event → ℕ → Decoded
-plain_of e v = when eqb v 0 then Known e else NoEvent
+unfoldable pub plain_of : Event → ℕ → Option Event
+plain_of e v = when eqb v 0 then Some e else None

@@ -1,27 +1,27 @@
 // Document 01, 'Numbers that an answer carries': refusals of an access to a register, pointers, and the reset key.
+#![tactic(auto, using(laws::specs::Cases::cases), unfolding(crate::specs::Access::busy_refusal, crate::specs::Access::past_refusal, crate::specs::Access::too_many, crate::specs::Access::place_refusal, crate::specs::Access::rewound, crate::specs::Access::at_most, crate::specs::Access::pointed_at, crate::specs::Access::overrun_of, crate::specs::Access::key_after, crate::specs::Access::resets_of, crate::specs::Access::kept_if))]
+
 ghost use Rattle.std.specs.Prelude.{◌≡◌, ◌≤◌, get_or};
 ghost use Rattle.rules.specs.Access.{busy_refusal, locked_of, past_refusal, too_many, sla_refusal, conf_refusal, place_refusal, sel_refusal, spot_of, spot_refusal, data_refusal};
 ghost use Rattle.rules.specs.Access.{rewound, at_most, pointed_at, overrun_of, preset_of, key_after, resets_of, kept_if};
 ghost use Rattle.rules.specs.Facts.{Configured};
+ghost use Rattle.rules.specs.Numbers.{number_of};
 
-use crate::numbers::{BUFFER, DONE, LOCKED, MANY_TRANSACTIONS, PAST_BUFFER, PAST_TABLE};
+use crate::numbers::{BUFFER, Refusal};
 use crate::registers::{Register, active};
 use crate::state::Phase;
 use crate::tables::{configured, start_of};
 
-// Where DATA's pointer stands: at a configured place of the buffer, or outside.
-#[derive(Clone, Copy)]
-pub enum Spot {
-    At(usize),
-    Outside,
-}
-
 // ---- nos. 3, 4 and 6
 
-pub fn busy_refusal(p: Phase) -> u8
-    ensures { result ≡ busy_refusal p }
+pub fn busy_refusal(p: Phase) -> Result<(), Refusal>
+    ensures { number_of result ≡ busy_refusal p }
 {
-    if active(p) { LOCKED } else { DONE }
+    if active(p) {
+        Err(Refusal::Locked)
+    } else {
+        Ok(())
+    }
 }
 
 fn locked(p: Phase, at: usize) -> bool
@@ -29,98 +29,95 @@ fn locked(p: Phase, at: usize) -> bool
 {
     match p {
         Phase::Idle => false,
-        Phase::Address(_) => true,
-        Phase::Sending(_) => true,
-        Phase::Receiving(_) => true,
-        Phase::Stopping => true,
         Phase::Waiting => 0 < at,
+        _ => true,
     }
 }
 
-pub fn past_refusal(last: usize, at: usize) -> u8
-    ensures { result ≡ past_refusal last at }
+pub fn past_refusal(last: usize, at: usize) -> Result<(), Refusal>
+    ensures { number_of result ≡ past_refusal last at }
 {
-    if last < at { PAST_TABLE } else { DONE }
+    if last < at {
+        Err(Refusal::PastTable)
+    } else {
+        Ok(())
+    }
 }
 
 fn too_many(at: usize, v: u8) -> bool
     ensures { result ≡ too_many at v }
 {
-    if at == 0 { 64 < v } else { false }
+    at == 0 && 64 < v
 }
 
-pub fn sla_refusal(p: Phase, at: usize) -> u8
-    ensures { result ≡ sla_refusal p at }
+pub fn sla_refusal(p: Phase, at: usize) -> Result<(), Refusal>
+    ensures { number_of result ≡ sla_refusal p at }
 {
-    if active(p) {
-        LOCKED
-    } else {
-        past_refusal(63, at)
-    }
+    busy_refusal(p)?;
+    past_refusal(63, at)
 }
 
-pub fn conf_refusal(p: Phase, at: usize, v: u8) -> u8
-    ensures { result ≡ conf_refusal p at v }
+pub fn conf_refusal(p: Phase, at: usize, v: u8) -> Result<(), Refusal>
+    ensures { number_of result ≡ conf_refusal p at v }
 {
     if locked(p, at) {
-        return LOCKED;
+        return Err(Refusal::Locked);
     }
-    if 64 < at {
-        return PAST_TABLE;
-    }
+    past_refusal(64, at)?;
     if too_many(at, v) {
-        MANY_TRANSACTIONS
+        Err(Refusal::ManyTransactions)
     } else {
-        DONE
+        Ok(())
     }
 }
 
 // ---- no. 5: the buffer boundary
 
-pub fn place_refusal(at: usize) -> u8
-    ensures { result ≡ place_refusal at }
+pub fn place_refusal(at: usize) -> Result<(), Refusal>
+    ensures { number_of result ≡ place_refusal at }
 {
-    if at < BUFFER { DONE } else { PAST_BUFFER }
+    if at < BUFFER {
+        Ok(())
+    } else {
+        Err(Refusal::PastBuffer)
+    }
 }
 
-pub fn sel_refusal(lens: &[u8; 65], v: u8) -> u8
-    ensures { result ≡ sel_refusal lens.now v }
+pub fn sel_refusal(lens: &[u8; 65], v: u8) -> Result<(), Refusal>
+    ensures { number_of result ≡ sel_refusal lens.now v }
 {
     if 63 < v {
-        return PAST_BUFFER;
+        return Err(Refusal::PastBuffer);
     }
-    let start = start_of(lens, v as usize);
-    place_refusal(start)
+    place_refusal(start_of(lens, v as usize))
 }
 
 // Finds the place of the buffer at which DATA's pointer stands, if TRANCONFIG configures it.
-pub fn find_place(lens: &[u8; 65], at: usize) -> Spot
+pub fn find_place(lens: &[u8; 65], at: usize) -> Option<usize>
     requires { get_or lens.now 0 0 ≤ 64 }
     ensures { (result ≡ spot_of lens.now at) × Configured lens.now result }
 {
-    if BUFFER <= at {
-        return Spot::Outside;
-    }
-    if configured(lens, at) {
-        Spot::At(at)
+    if at < BUFFER && configured(lens, at) {
+        Some(at)
     } else {
-        Spot::Outside
+        None
     }
 }
 
-pub fn spot_refusal(s: Spot) -> u8
-    ensures { result ≡ spot_refusal s }
+pub fn spot_refusal(s: Option<usize>) -> Result<(), Refusal>
+    ensures { number_of result ≡ spot_refusal s }
 {
     match s {
-        Spot::At(_) => DONE,
-        Spot::Outside => PAST_BUFFER,
+        Some(_) => Ok(()),
+        None => Err(Refusal::PastBuffer),
     }
 }
 
-pub fn data_refusal(p: Phase, s: Spot) -> u8
-    ensures { result ≡ data_refusal p s }
+pub fn data_refusal(p: Phase, s: Option<usize>) -> Result<(), Refusal>
+    ensures { number_of result ≡ data_refusal p s }
 {
-    if active(p) { LOCKED } else { spot_refusal(s) }
+    busy_refusal(p)?;
+    spot_refusal(s)
 }
 
 // ---- AIPTRRST and BPTRRST
@@ -134,7 +131,7 @@ pub fn rewind(reset: bool, at: usize) -> usize
 fn at_most(place: usize) -> usize
     ensures { result ≡ at_most place }
 {
-    if place < BUFFER { place } else { BUFFER }
+    place.min(BUFFER)
 }
 
 pub fn point_at(aiptrrst: bool, place: usize, at: usize) -> usize
@@ -146,7 +143,7 @@ pub fn point_at(aiptrrst: bool, place: usize, at: usize) -> usize
 pub fn overrun(aiptrrst: bool, place: usize) -> bool
     ensures { result ≡ overrun_of aiptrrst place }
 {
-    if aiptrrst { BUFFER <= place } else { false }
+    aiptrrst && BUFFER <= place
 }
 
 // ---- the key of PRESET
@@ -154,38 +151,21 @@ pub fn overrun(aiptrrst: bool, place: usize) -> bool
 pub fn is_preset(reg: Register) -> bool
     ensures { result ≡ preset_of reg }
 {
-    match reg {
-        Register::Status(_) => false,
-        Register::Control => false,
-        Register::Chstatus => false,
-        Register::Intmsk => false,
-        Register::Slatable => false,
-        Register::Tranconfig => false,
-        Register::Data => false,
-        Register::Transel => false,
-        Register::Tranofs => false,
-        Register::Bytecount => false,
-        Register::Setting(_) => false,
-        Register::Preset => true,
-    }
+    reg == Register::Preset
 }
 
 // Whether a write, at a reset register or not, leaves its A5h.
 pub fn key_after(preset: bool, v: u8) -> bool
     ensures { result ≡ key_after preset v }
 {
-    if preset { v == 0xA5 } else { false }
+    preset && v == 0xA5
 }
 
 // Whether a write, at a reset register or not, resets.
 pub fn resets(preset: bool, v: u8, key: bool) -> bool
     ensures { result ≡ resets_of preset v key }
 {
-    if preset {
-        if key { v == 0x5A } else { false }
-    } else {
-        false
-    }
+    preset && key && v == 0x5A
 }
 
 // ---- CONTROL: TP and TE

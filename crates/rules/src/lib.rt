@@ -12,21 +12,20 @@ mod tags;
 mod wires;
 
 pub use access::{
-    Spot, busy_refusal, conf_refusal, data_refusal, find_place, is_preset, kept_if, key_after,
-    overrun, past_refusal, place_refusal, point_at, resets, rewind, sel_refusal, sla_refusal,
-    spot_refusal,
+    busy_refusal, conf_refusal, data_refusal, find_place, is_preset, kept_if, key_after, overrun,
+    past_refusal, place_refusal, point_at, resets, rewind, sel_refusal, sla_refusal, spot_refusal,
 };
 pub use numbers::{
     ADDRESS_REFUSED, BUFFER, DATA_REFUSED, DONE, DONE_STATUS, LOCKED, MANY_TRANSACTIONS, MEMORY,
-    NOT_AWAITED, NOT_BEGUN, NOWHERE, OUT_OF_RANGE, PAST_BUFFER, PAST_TABLE, READ_ONLY, UNDERWAY,
-    UNREADABLE,
+    NO_ROOM, NOT_A_FILE, NOT_AWAITED, NOT_BEGUN, NOWHERE, OUT_OF_RANGE, PAST_BUFFER, PAST_TABLE,
+    READ_ONLY, Refusal, UNDERWAY, UNREADABLE, number_of,
 };
 pub use parts::{Device, Kind, Straps, device_by, device_id, is_fm, other_kind};
 pub use registers::{
-    Command, FEMSK, FLDMSK, Place, REMSK, Register, SDMSK, WEMSK, active, bit, chstatus_value,
-    command_of, control_value, mask_kept, place_of, weight,
+    Command, FEMSK, FLDMSK, REMSK, Register, SDMSK, WEMSK, active, bit, chstatus_value, command_of,
+    control_value, mask_kept, place_of, weight,
 };
 pub use state::{Flags, Phase, Ptrs, Regs, Walk};
 pub use tables::{byte, first_sent, fits, mark, reads, skipped, start_of, wipe};
-pub use tags::{Decoded, Tag, action_tag, event_of};
+pub use tags::{Tag, action_tag, event_of};
 pub use wires::{Action, Edge, Event, Level};

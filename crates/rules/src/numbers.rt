@@ -1,4 +1,6 @@
 // Document 01's sizes, STATUS values and answer numbers, each by its name.
+ghost use Rattle.std.specs.Prelude.{◌≡◌};
+ghost use Rattle.rules.specs.Numbers.{refusal_number, number_of};
 
 // All buffers are one lent memory; each channel works on its own bytes of it.
 pub const MEMORY: usize = 13056;
@@ -36,3 +38,65 @@ pub const NOT_AWAITED: u8 = 7;
 pub const UNREADABLE: u8 = 8;
 
 pub const OUT_OF_RANGE: u8 = 9;
+
+pub const NOT_A_FILE: u8 = 10;
+
+pub const NO_ROOM: u8 = 11;
+
+// Why a step is refused, in the order of the numbers.
+#[derive(Clone, Copy, PartialEq, Eq)]
+pub enum Refusal {
+    Nowhere,
+    ReadOnly,
+    Locked,
+    PastTable,
+    PastBuffer,
+    ManyTransactions,
+    NotAwaited,
+    Unreadable,
+    OutOfRange,
+    NotAFile,
+    NoRoom,
+}
+
+impl Refusal {
+    // Its number, as an answer carries it.
+    pub fn number(self) -> u8
+        ensures { result ≡ refusal_number self }
+    {
+        match self {
+            Refusal::Nowhere => NOWHERE,
+            Refusal::ReadOnly => READ_ONLY,
+            Refusal::Locked => LOCKED,
+            Refusal::PastTable => PAST_TABLE,
+            Refusal::PastBuffer => PAST_BUFFER,
+            Refusal::ManyTransactions => MANY_TRANSACTIONS,
+            Refusal::NotAwaited => NOT_AWAITED,
+            Refusal::Unreadable => UNREADABLE,
+            Refusal::OutOfRange => OUT_OF_RANGE,
+            Refusal::NotAFile => NOT_A_FILE,
+            Refusal::NoRoom => NO_ROOM,
+        }
+    }
+}
+
+impl From<Refusal> for u8 {
+    ghost use Rattle.rules.specs.Numbers.{refusal_number};
+    ghost use Rattle.std.specs.Prelude.{◌≡◌};
+
+    ghost from_gives = { λ r n. n ≡ refusal_number r };
+
+    fn from(refusal: Refusal) -> u8 {
+        refusal.number()
+    }
+}
+
+// What an answer carries: 0 where nothing is refused.
+pub fn number_of(outcome: Result<(), Refusal>) -> u8
+    ensures { result ≡ number_of outcome }
+{
+    match outcome {
+        Ok(()) => DONE,
+        Err(refusal) => refusal.number(),
+    }
+}

@@ -3,20 +3,20 @@ ghost use Rattle.std.specs.Prelude.{◌≡◌};
 ghost use Rattle.rules.specs.Parts.{is_fm, other_kind, device_by, device_id};
 
 // Fm+ sends and receives, and is acknowledged. Ultra Fast-mode (UFm) only sends, and nobody acknowledges.
-#[derive(Clone, Copy)]
+#[derive(Clone, Copy, PartialEq, Eq)]
 pub enum Kind {
     Fm,
     Ufm,
 }
 
 // What the hardware reset chose of a channel: no other step changes it.
-#[derive(Clone, Copy)]
+#[derive(Clone, Copy, PartialEq, Eq)]
 pub struct Straps {
     pub kind: Kind,
 }
 
 // The parts.
-#[derive(Clone, Copy)]
+#[derive(Clone, Copy, PartialEq, Eq)]
 pub enum Device {
     Pca9663,
     Pcu9669,
@@ -25,10 +25,7 @@ pub enum Device {
 pub fn is_fm(k: Kind) -> bool
     ensures { result ≡ is_fm k }
 {
-    match k {
-        Kind::Fm => true,
-        Kind::Ufm => false,
-    }
+    k == Kind::Fm
 }
 
 // The kind of channels 1 and 2. Channel 0 is Fm+ on both parts.

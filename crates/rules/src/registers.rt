@@ -1,4 +1,6 @@
 // Document 01, 'The part as the processor sees it': where a channel's registers stand, and the bits of CONTROL, CHSTATUS and INTMSK.
+#![tactic(auto, using(laws::specs::Cases::cases), unfolding(crate::specs::Registers::status_place, crate::specs::Registers::table_at, crate::specs::Registers::setting_at, crate::specs::Registers::register_at, crate::specs::Registers::register_place, crate::specs::Registers::place_of, crate::specs::Registers::weigh, crate::specs::Registers::control_value, crate::specs::Registers::chstatus_value))]
+
 ghost use Rattle.std.specs.Prelude.{◌≡◌, ◌<◌, ◌≤◌};
 ghost use Rattle.rules.specs.Registers.{status_place, table_at, setting_at, register_at, register_place, place_of};
 ghost use Rattle.rules.specs.Registers.{bit_of, command_of, weigh, control_value, chstatus_value, mask_kept, active_of};
@@ -7,7 +9,7 @@ ghost use Rattle.rules.specs.Facts.{Known, KnownPlace};
 use crate::state::{Flags, Phase};
 
 // A register of a channel: STATUS n, or the one at C0h, D0h or E0h + 0 to Fh. Setting 0 to 5 are FRAMECNT, REFRATE, SCLL, SCLH, MODE and TIMEOUT.
-#[derive(Clone, Copy)]
+#[derive(Clone, Copy, PartialEq, Eq)]
 pub enum Register {
     Status(usize),
     Control,
@@ -23,15 +25,8 @@ pub enum Register {
     Preset,
 }
 
-// An address as a channel sees it: one of its registers, or none.
-#[derive(Clone, Copy)]
-pub enum Place {
-    Here(Register),
-    Elsewhere,
-}
-
 // What a write to CONTROL commands: its bits.
-#[derive(Clone, Copy)]
+#[derive(Clone, Copy, PartialEq, Eq)]
 pub struct Command {
     pub stoseq: bool,
     pub sta: bool,
@@ -42,13 +37,13 @@ pub struct Command {
     pub aiptrrst: bool,
 }
 
-fn status_place(c: u8, a: u8) -> Place
+fn status_place(c: u8, a: u8) -> Option<Register>
     ensures { (result ≡ status_place c a) × KnownPlace result }
 {
     if a / 64 == c {
-        Place::Here(Register::Status((a % 64) as usize))
+        Some(Register::Status((a % 64) as usize))
     } else {
-        Place::Elsewhere
+        None
     }
 }
 
@@ -87,23 +82,23 @@ fn register_at(n: u8) -> Register
     if 8 < n { setting_at(n) } else { table_at(n) }
 }
 
-fn register_place(c: u8, a: u8) -> Place
+fn register_place(c: u8, a: u8) -> Option<Register>
     requires { c ≤ 2 }
     ensures { (result ≡ register_place c a) × KnownPlace result }
 {
     if a / 16 == 12 + c {
-        Place::Here(register_at(a % 16))
+        Some(register_at(a % 16))
     } else {
-        Place::Elsewhere
+        None
     }
 }
 
-// What stands at address a for channel c.
-pub fn place_of(c: u8, a: u8) -> Place
+// What stands at address a for channel c: one of its registers, or none.
+pub fn place_of(c: u8, a: u8) -> Option<Register>
     ensures { (result ≡ place_of c a) × KnownPlace result }
 {
     if 2 < c {
-        return Place::Elsewhere;
+        return None;
     }
     if a < 0xC0 {
         return status_place(c, a);
@@ -178,12 +173,5 @@ pub fn mask_kept(v: u8) -> u8
 pub fn active(p: Phase) -> bool
     ensures { result ≡ active_of p }
 {
-    match p {
-        Phase::Idle => false,
-        Phase::Address(_) => true,
-        Phase::Sending(_) => true,
-        Phase::Receiving(_) => true,
-        Phase::Stopping => true,
-        Phase::Waiting => true,
-    }
+    p != Phase::Idle
 }

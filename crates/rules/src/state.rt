@@ -1,8 +1,9 @@
 // The parts of a channel's record.
 
 // Where a sequence on the wires stands. The transaction is kept in Address, Sending and Receiving only, as a byte, next to the phase.
-#[derive(Clone, Copy)]
+#[derive(Clone, Copy, PartialEq, Eq, Default)]
 pub enum Phase {
+    #[default]
     Idle,
     Address(u8),
     Sending(u8),
@@ -12,7 +13,7 @@ pub enum Phase {
 }
 
 // INTMSK, TRANSEL, TRANOFS, and CONTROL's TP and TE.
-#[derive(Clone, Copy)]
+#[derive(Clone, Copy, PartialEq, Eq, Default)]
 pub struct Regs {
     pub intmsk: u8,
     pub transel: u8,
@@ -22,7 +23,7 @@ pub struct Regs {
 }
 
 // CHSTATUS, a field a bit: 7 SD, 6 FLD, 5 WE, 4 RE, 3 DAE, 2 CLE, 1 SSE, 0 FE.
-#[derive(Clone, Copy)]
+#[derive(Clone, Copy, PartialEq, Eq, Default)]
 pub struct Flags {
     pub sd: bool,
     pub fld: bool,
@@ -35,7 +36,7 @@ pub struct Flags {
 }
 
 // The pointers of SLATABLE, TRANCONFIG, DATA and BYTECOUNT.
-#[derive(Clone, Copy)]
+#[derive(Clone, Copy, PartialEq, Eq, Default)]
 pub struct Ptrs {
     pub sla: usize,
     pub conf: usize,
@@ -44,7 +45,7 @@ pub struct Ptrs {
 }
 
 // The phase, the number of frames ended since STA, the recorded STO, STOSEQ and FE, and a noted error end.
-#[derive(Clone, Copy)]
+#[derive(Clone, Copy, PartialEq, Eq, Default)]
 pub struct Walk {
     pub phase: Phase,
     pub ended: u8,

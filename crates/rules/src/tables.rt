@@ -18,22 +18,20 @@ pub fn start_of(lens: &[u8; 65], v: usize) -> usize
     requires { v ≤ 64 }
     ensures { (result ≡ start_of lens.now v) × (result ≤ 255 * v) }
 {
-    let mut sum: usize = 0;
-    let mut i: usize = 0;
-    while i < v {
-        i += 1;
-        sum += byte(lens[i]);
+    let mut sum = 0;
+    for &len in &lens[1..=v] {
+        sum += byte(len);
     }
     sum
 }
 
 // Whether the lengths of the first count transactions fit the buffer.
+#[tactic(auto, unfolding(crate::specs::Tables::fitting))]
 pub fn fits(lens: &[u8; 65]) -> bool
     requires { get_or lens.now 0 0 ≤ 64 }
     ensures { result ≡ fitting lens.now }
 {
-    let count = lens[0];
-    start_of(lens, count as usize) <= BUFFER
+    start_of(lens, byte(lens[0])) <= BUFFER
 }
 
 // Whether a place lies below the sum of the first count lengths, which are taken from it one by one: none is looked at behind the one that tells.
@@ -43,14 +41,12 @@ pub(crate) fn configured(lens: &[u8; 65], at: usize) -> bool
 {
     let count = byte(lens[0]);
     let mut left = at;
-    let mut i: usize = 0;
-    while i < count {
-        let len = byte(lens[i + 1]);
+    for &len in &lens[1..=count] {
+        let len = byte(len);
         if left < len {
             return true;
         }
         left -= len;
-        i += 1;
     }
     false
 }
@@ -62,6 +58,7 @@ pub fn reads(sla: u8) -> bool
 }
 
 // The longest read that is skipped: none but one of length 0, and of a UFm channel any.
+#[tactic(auto, using(laws::specs::Cases::cases), unfolding(crate::specs::Tables::longest_skipped))]
 fn longest_skipped(kind: Kind) -> u8
     ensures { result ≡ longest_skipped kind }
 {
@@ -72,7 +69,7 @@ fn longest_skipped(kind: Kind) -> u8
 fn skips(most: u8, sla: u8, len: u8) -> bool
     ensures { Skips most sla len result }
 {
-    if reads(sla) { len <= most } else { false }
+    reads(sla) && len <= most
 }
 
 pub fn skipped(kind: Kind, sla: u8, len: u8) -> bool
@@ -81,7 +78,7 @@ pub fn skipped(kind: Kind, sla: u8, len: u8) -> bool
     skips(longest_skipped(kind), sla, len)
 }
 
-// The first transaction from `from` that is not skipped, or the count.
+// The first transaction from `from` that is not skipped, or the count: 'a loop that breaks with the transaction or the count'.
 pub fn first_sent(kind: Kind, sla: &[u8; 64], lens: &[u8; 65], from: usize, count: usize) -> usize
     requires { (from ≤ count) × (count ≤ 64) }
     ensures { (result ≡ first_sent kind sla.now lens.now from count) × (from ≤ result) × (result ≤ count) }
@@ -104,20 +101,12 @@ pub fn mark(status: &mut [u8; 64], from: usize, to: usize)
     requires { (from ≤ to) × (to ≤ 64) }
     ensures { status.new ≡ marked status.old from to }
 {
-    let mut i = from;
-    while i < to {
-        status[i] = DONE_STATUS;
-        i += 1;
-    }
+    status[from..to].fill(DONE_STATUS);
 }
 
 // Zeroes the bytes.
 pub fn wipe(mem: &mut [u8])
     ensures { mem.new ≡ replicate (length mem.old) 0 }
 {
-    let mut i = 0;
-    while i < mem.len() {
-        mem[i] = 0;
-        i += 1;
-    }
+    mem.fill(0);
 }

@@ -5,17 +5,10 @@ ghost use Rattle.rules.specs.Tags.{tag, action_tag, plain_of, event_of};
 use crate::wires::{Action, Event, Level};
 
 // An action or an event in numbers: its kind, and the byte that it carries, or 0.
-#[derive(Clone, Copy)]
+#[derive(Clone, Copy, PartialEq, Eq)]
 pub struct Tag {
     pub kind: u8,
     pub value: u8,
-}
-
-// The event of a tag, or that it is no event's.
-#[derive(Clone, Copy)]
-pub enum Decoded {
-    Known(Event),
-    NoEvent,
 }
 
 // What a channel does, in numbers.
@@ -35,23 +28,20 @@ pub fn action_tag(a: Action) -> Tag
     }
 }
 
-fn plain(e: Event, value: u8) -> Decoded
+#[tactic(auto, using(laws::specs::Cases::cases), unfolding(crate::specs::Tags::plain_of))]
+fn plain(e: Event, value: u8) -> Option<Event>
     ensures { result ≡ plain_of e value }
 {
-    if value == 0 {
-        Decoded::Known(e)
-    } else {
-        Decoded::NoEvent
-    }
+    (value == 0).then_some(e)
 }
 
-// What a channel hears, out of numbers.
-pub fn event_of(kind: u8, value: u8) -> Decoded
+// What a channel hears, out of numbers, or that the tag is no event's.
+pub fn event_of(kind: u8, value: u8) -> Option<Event>
     ensures { result ≡ event_of (tag kind value) }
 {
     match kind {
         9 => plain(Event::Ninth(Level::Low), value),
-        10 => Decoded::Known(Event::Byte(value)),
+        10 => Some(Event::Byte(value)),
         11 => plain(Event::Ninth(Level::High), value),
         12 => plain(Event::Tick, value),
         13 => plain(Event::Stop, value),
@@ -59,6 +49,6 @@ pub fn event_of(kind: u8, value: u8) -> Decoded
         15 => plain(Event::Scl, value),
         16 => plain(Event::Ill, value),
         20 => plain(Event::Sent, value),
-        _ => Decoded::NoEvent,
+        _ => None,
     }
 }

@@ -1,7 +1,7 @@
 // Document 01, 'A sequence on the wires': what a channel does on its wires, what they did, and an edge of the trigger.
 
 // What a channel does on the wires, in document 01's letters.
-#[derive(Clone, Copy)]
+#[derive(Clone, Copy, PartialEq, Eq)]
 pub enum Action {
     Nothing,
     S(u8),
@@ -15,14 +15,14 @@ pub enum Action {
 }
 
 // What was seen of SDA at the ninth clock of a byte: low, acknowledged; high, not.
-#[derive(Clone, Copy)]
+#[derive(Clone, Copy, PartialEq, Eq)]
 pub enum Level {
     Low,
     High,
 }
 
 // What the wires did, or the bench's clock. ACK and NACK are one event, the ninth clock with the level seen; where nobody acknowledges, that a byte went out is SENT.
-#[derive(Clone, Copy)]
+#[derive(Clone, Copy, PartialEq, Eq)]
 pub enum Event {
     Ninth(Level),
     Byte(u8),
@@ -35,7 +35,7 @@ pub enum Event {
 }
 
 // An edge of the trigger.
-#[derive(Clone, Copy)]
+#[derive(Clone, Copy, PartialEq, Eq)]
 pub enum Edge {
     Rising,
     Falling,

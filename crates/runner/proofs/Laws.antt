@@ -2,6 +2,5 @@
 pub mod Run
 pub mod Text
 pub mod Lines
-pub mod Performing
 pub mod Feeding
 pub mod Kept

@@ -1,5 +1,5 @@
 -- What a line of the script does: a step of the part, by the rules of demand 3's run (crate independent, `the_part`), with an answer to what can't be read.
-use Rattle.std.specs.Prelude.{ℕ, false, List, ◌≡◌}
+use Rattle.std.specs.Prelude.{ℕ, false, List, ◌≡◌, Option, Some, None}
 use Rattle.steps.specs.declared.map.Target.{Target}
 use Rattle.steps.specs.declared.map.Target.TheVariants.{All}
 use Rattle.steps.specs.declared.map.Wide.TheVariants.{Beyond}
@@ -8,8 +8,7 @@ use Rattle.steps.specs.Map.{target_of}
 use Rattle.part.specs.declared.state.Part.{Part}
 use Rattle.mixes.specs.Mix.{Machine}
 use Rattle.independent.specs.Statement.{State, preset_written, the_part}
-use Rattle.script.specs.declared.reading.Line.{Line}
-use Rattle.script.specs.declared.reading.Line.TheVariants.{Readable, Unreadable}
+use Rattle.steps.specs.declared.map.Step.{Step}
 use Rattle.script.specs.Grammar.{line_of}
 use Rattle.answers.specs.Answer.{no_answer}
 
@@ -18,24 +17,24 @@ abbrev pub start : Part → List ℕ → State
 start p m = record { part = p; memory = m }
 
 -- a step is answered by the part's rules; what can't be read is answered no. 8
-abbrev pub line_answer : State → Line → PartAnswer
-line_answer s (Readable a) = the_part.answer s a
-line_answer s Unreadable = no_answer
+abbrev pub line_answer : State → Option Step → PartAnswer
+line_answer s (Some a) = the_part.answer s a
+line_answer s None = no_answer
 
 -- and leaves all
-abbrev pub after_line : State → Line → State
-after_line s (Readable a) = the_part.after s a
-after_line s Unreadable = s
+abbrev pub after_line : State → Option Step → State
+after_line s (Some a) = the_part.after s a
+after_line s None = s
 
 -- the channel that a step is of, and 3 where it is one of the whole part or can't be read
-abbrev pub owner_of_line : Line → ℕ
-owner_of_line (Readable a) = the_part.owner a
-owner_of_line Unreadable = 3
+abbrev pub owner_of_line : Option Step → ℕ
+owner_of_line (Some a) = the_part.owner a
+owner_of_line None = 3
 
 -- whom a line concerns; one that can't be read concerns none, as an event of a channel above 2
-abbrev pub line_target : Line → Target
-line_target (Readable a) = target_of a
-line_target Unreadable = All Beyond
+abbrev pub line_target : Option Step → Target
+line_target (Some a) = target_of a
+line_target None = All Beyond
 
 abbrev pub line_aim : List ℕ → Target
 line_aim l = line_target (line_of l)

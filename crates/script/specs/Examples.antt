@@ -1,5 +1,5 @@
 -- Lines that can be read and lines that can't, computed by the definitions.
-use Rattle.std.specs.Prelude.{[], ◌≡◌, refl}
+use Rattle.std.specs.Prelude.{[], ◌≡◌, refl, Some, None}
 use Rattle.laws.specs.Pick.{when◌then◌else◌}
 use Rattle.laws.specs.Ascii.{ascii}
 use Rattle.rules.specs.declared.parts.Device.TheVariants.{Pca9663, Pcu9669}
@@ -7,53 +7,52 @@ use Rattle.rules.specs.declared.wires.Event.TheVariants.{Ninth, Byte, Stop, Sent
 use Rattle.rules.specs.declared.wires.Level.TheVariants.{Low, High}
 use Rattle.steps.specs.declared.map.Step.TheVariants.{Write, Wire, Reset}
 use Rattle.script.specs.Grammar.{is_hex, hex_of, suiting, in_form, fault_line, clock_line, event_line, edge_line, line_of}
-use Rattle.script.specs.declared.reading.Line.TheVariants.{Readable, Unreadable}
 
-read_write : line_of (ascii "W C5 7E") ≡ Readable (Write 0xC5 0x7E)
+read_write : line_of (ascii "W C5 7E") ≡ Some (Write 0xC5 0x7E)
 unfolding line_of in_form suiting is_hex hex_of when◌then◌else◌
 read_write = refl
 
-read_ack : line_of (ascii "E 0 ACK") ≡ Readable (Wire 0 (Ninth Low))
+read_ack : line_of (ascii "E 0 ACK") ≡ Some (Wire 0 (Ninth Low))
 unfolding line_of edge_line event_line in_form suiting is_hex hex_of when◌then◌else◌
 read_ack = refl
 
-read_nack : line_of (ascii "E 0 NACK") ≡ Readable (Wire 0 (Ninth High))
+read_nack : line_of (ascii "E 0 NACK") ≡ Some (Wire 0 (Ninth High))
 unfolding line_of edge_line event_line in_form suiting is_hex hex_of when◌then◌else◌
 read_nack = refl
 
-read_sent : line_of (ascii "E 1 SENT") ≡ Readable (Wire 1 Sent)
+read_sent : line_of (ascii "E 1 SENT") ≡ Some (Wire 1 Sent)
 unfolding line_of edge_line event_line in_form suiting is_hex hex_of when◌then◌else◌
 read_sent = refl
 
-read_first : line_of (ascii "X") ≡ Readable (Reset Pca9663)
+read_first : line_of (ascii "X") ≡ Some (Reset Pca9663)
 unfolding line_of in_form suiting when◌then◌else◌
 read_first = refl
 
-read_second : line_of (ascii "X 9669") ≡ Readable (Reset Pcu9669)
+read_second : line_of (ascii "X 9669") ≡ Some (Reset Pcu9669)
 unfolding line_of in_form suiting when◌then◌else◌
 read_second = refl
 
 -- the first part has no name of its own on a line
-no_name : line_of (ascii "X 9663") ≡ Unreadable
+no_name : line_of (ascii "X 9663") ≡ None
 unfolding line_of edge_line event_line clock_line fault_line in_form suiting is_hex when◌then◌else◌
 no_name = refl
 
-read_stop : line_of (ascii "E 0 STOP") ≡ Readable (Wire 0 Stop)
+read_stop : line_of (ascii "E 0 STOP") ≡ Some (Wire 0 Stop)
 unfolding line_of edge_line event_line clock_line in_form suiting is_hex hex_of when◌then◌else◌
 read_stop = refl
 
-read_byte : line_of (ascii "E F BYTE 0A") ≡ Readable (Wire 15 (Byte 10))
+read_byte : line_of (ascii "E F BYTE 0A") ≡ Some (Wire 15 (Byte 10))
 unfolding line_of edge_line event_line in_form suiting is_hex hex_of when◌then◌else◌
 read_byte = refl
 
-no_new_word : line_of (ascii "E 0 NINTH") ≡ Unreadable
+no_new_word : line_of (ascii "E 0 NINTH") ≡ None
 unfolding line_of edge_line event_line clock_line fault_line in_form suiting is_hex when◌then◌else◌
 no_new_word = refl
 
-lower_case : line_of (ascii "W c5 7E") ≡ Unreadable
+lower_case : line_of (ascii "W c5 7E") ≡ None
 unfolding line_of edge_line event_line clock_line fault_line in_form suiting is_hex when◌then◌else◌
 lower_case = refl
 
-empty : line_of [] ≡ Unreadable
+empty : line_of [] ≡ None
 unfolding line_of edge_line event_line clock_line fault_line in_form when◌then◌else◌
 empty = refl

@@ -1,5 +1,5 @@
 -- Document 01, 'The script program': which step a line asks for. A line is the list of its bytes, without its LF.
-use Rattle.std.specs.Prelude.{ℕ, ◌+◌, ◌*◌, ◌-◌, Bool, true, false, List, [], ◌∷◌, eqb, leb, ltb, get_or}
+use Rattle.std.specs.Prelude.{ℕ, ◌+◌, ◌*◌, ◌-◌, Bool, true, false, List, [], ◌∷◌, eqb, leb, ltb, get_or, Option, Some, None}
 use Rattle.laws.specs.Pick.{when◌then◌else◌}
 use Rattle.laws.specs.Ascii.{ascii}
 use Rattle.rules.specs.declared.parts.Device.TheVariants.{Pca9663, Pcu9669}
@@ -7,9 +7,8 @@ use Rattle.rules.specs.declared.wires.Edge.TheVariants.{Rising, Falling}
 use Rattle.rules.specs.declared.wires.Event.{Event}
 use Rattle.rules.specs.declared.wires.Event.TheVariants.{Ninth, Byte, Tick, Stop, Sda, Scl, Ill, Sent}
 use Rattle.rules.specs.declared.wires.Level.TheVariants.{Low, High}
+use Rattle.steps.specs.declared.map.Step.{Step}
 use Rattle.steps.specs.declared.map.Step.TheVariants.{Write, Read, Wire, Trigger, Reset}
-use Rattle.script.specs.declared.reading.Line.{Line}
-use Rattle.script.specs.declared.reading.Line.TheVariants.{Readable, Unreadable}
 
 -- every form below is shorter: the longest, `E c BYTE bb`, has 11 bytes, and there is room for a longer one. So a line of so many bytes or more can't be
 -- read, and its first bytes, so many, are read as it is (`first_bytes_lem`, proofs/Laws/Grammar.antt). It is shut: laws go by its name
@@ -44,26 +43,26 @@ in_form (letter ∷ form) [] = false
 in_form (letter ∷ form) (b ∷ l) = when suiting letter b then in_form form l else false
 
 -- `E c ..`: an event of channel c
-abbrev pub wire_line : List ℕ → Event → Line
-wire_line l e = Readable (Wire (digit_at l 2) e)
+abbrev pub wire_line : List ℕ → Event → Option Step
+wire_line l e = Some (Wire (digit_at l 2) e)
 
 -- `E c SDA`, `E c SCL`, `E c ILL`; any other line can't be read
-unfoldable pub fault_line : List ℕ → Line
+unfoldable pub fault_line : List ℕ → Option Step
 fault_line l =
     when in_form (ascii "E c SDA") l then wire_line l Sda
     else when in_form (ascii "E c SCL") l then wire_line l Scl
     else when in_form (ascii "E c ILL") l then wire_line l Ill
-    else Unreadable
+    else None
 
 -- `E c TICK`, `E c STOP`
-unfoldable pub clock_line : List ℕ → Line
+unfoldable pub clock_line : List ℕ → Option Step
 clock_line l =
     when in_form (ascii "E c TICK") l then wire_line l Tick
     else when in_form (ascii "E c STOP") l then wire_line l Stop
     else fault_line l
 
 -- `E c ACK`, `E c SENT`, `E c NACK`, `E c BYTE bb`. ACK and NACK become the one event that carries the level, low meaning acknowledged
-unfoldable pub event_line : List ℕ → Line
+unfoldable pub event_line : List ℕ → Option Step
 event_line l =
     when in_form (ascii "E c ACK") l then wire_line l (Ninth Low)
     else when in_form (ascii "E c SENT") l then wire_line l Sent
@@ -72,17 +71,17 @@ event_line l =
     else clock_line l
 
 -- `T R` or `T F`
-unfoldable pub edge_line : List ℕ → Line
+unfoldable pub edge_line : List ℕ → Option Step
 edge_line l =
-    when in_form (ascii "T R") l then Readable (Trigger Rising)
-    else when in_form (ascii "T F") l then Readable (Trigger Falling)
+    when in_form (ascii "T R") l then Some (Trigger Rising)
+    else when in_form (ascii "T F") l then Some (Trigger Falling)
     else event_line l
 
 -- a step a line: `W aa dd`, `R aa`, `X` or `X 9669` (hardware reset, of the PCA9663 or the PCU9669), or one of the above
-unfoldable pub line_of : List ℕ → Line
+unfoldable pub line_of : List ℕ → Option Step
 line_of l =
-    when in_form (ascii "W aa dd") l then Readable (Write (byte_at l 2) (byte_at l 5))
-    else when in_form (ascii "R aa") l then Readable (Read (byte_at l 2))
-    else when in_form (ascii "X") l then Readable (Reset Pca9663)
-    else when in_form (ascii "X 9669") l then Readable (Reset Pcu9669)
+    when in_form (ascii "W aa dd") l then Some (Write (byte_at l 2) (byte_at l 5))
+    else when in_form (ascii "R aa") l then Some (Read (byte_at l 2))
+    else when in_form (ascii "X") l then Some (Reset Pca9663)
+    else when in_form (ascii "X 9669") l then Some (Reset Pcu9669)
     else edge_line l

@@ -3,4 +3,4 @@
 
 mod reading;
 
-pub use reading::{LINE_ROOM, Line, read_line};
+pub use reading::{LINE_ROOM, read_line};

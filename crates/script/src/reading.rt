@@ -1,4 +1,4 @@
-// A line of the script: the step that it asks for, or that it can't be read.
+// A line of the script: the step that it asks for, or none where it can't be read.
 ghost use Rattle.std.specs.Prelude.{◌≡◌, ◌<◌};
 ghost use Rattle.script.specs.Grammar.{line_room, is_hex, hex_of, digit_at, byte_at, suiting, in_form, wire_line, line_of, edge_line, event_line, clock_line, fault_line};
 
@@ -8,50 +8,40 @@ use steps::Step;
 // A line of so many bytes, or more, can't be read: every form is shorter (`line_room`).
 pub const LINE_ROOM: usize = 16;
 
-// What a line, without its LF, asks for.
-#[derive(Clone, Copy)]
-pub enum Line {
-    Readable(Step),
-    Unreadable,
-}
-
+#[tactic(auto, using(laws::specs::Cases::cases), unfolding(crate::specs::Grammar::is_hex))]
 fn is_hex(b: u8) -> bool
     ensures { result ≡ is_hex b }
 {
-    if b < 58 {
-        48 <= b
-    } else if b < 71 {
-        65 <= b
-    } else {
-        false
-    }
+    matches!(b, b'0'..=b'9' | b'A'..=b'F')
 }
 
+#[tactic(auto, using(laws::specs::Cases::cases), unfolding(crate::specs::Grammar::hex_of, crate::specs::Grammar::is_hex))]
 fn hex(b: u8) -> u8
     ensures { (result ≡ hex_of b) × (result < 16) }
 {
-    if is_hex(b) {
-        if b < 58 { b - 48 } else { b - 55 }
-    } else {
-        0
+    match b {
+        b'0'..=b'9' => b - b'0',
+        b'A'..=b'F' => b - b'A' + 10,
+        _ => 0,
     }
 }
 
+#[tactic(auto, using(crate::proofs::Laws::Reading::digit_past))]
 fn digit_at(line: &[u8], i: usize) -> u8
     ensures { (result ≡ digit_at line.now i) × (result < 16) }
 {
     if i < line.len() { hex(line[i]) } else { 0 }
 }
 
+#[tactic(auto, unfolding(crate::specs::Grammar::line_room))]
 fn byte_at(line: &[u8], i: usize) -> u8
     requires { i < line_room }
     ensures { result ≡ byte_at line.now i }
 {
-    let high = digit_at(line, i);
-    let low = digit_at(line, i + 1);
-    16 * high + low
+    16 * digit_at(line, i) + digit_at(line, i + 1)
 }
 
+#[tactic(auto, using(laws::specs::Cases::cases), unfolding(crate::specs::Grammar::suiting))]
 fn suits(letter: u8, b: u8) -> bool
     ensures { result ≡ suiting letter b }
 {
@@ -61,35 +51,17 @@ fn suits(letter: u8, b: u8) -> bool
 fn in_form(form: &[u8], line: &[u8]) -> bool
     ensures { result ≡ in_form form.now line.now }
 {
-    if form.len() != line.len() {
-        return false;
-    }
-    let mut i = 0;
-    while i < form.len() {
-        if suits(form[i], line[i]) {
-            i += 1;
-        } else {
-            return false;
-        }
-    }
-    true
+    form.len() == line.len() && form.iter().zip(line).all(|(&letter, &b)| suits(letter, b))
 }
 
-fn wire(line: &[u8], e: Event) -> Line
+fn wire(line: &[u8], e: Event) -> Option<Step>
     ensures { result ≡ wire_line line.now e }
 {
-    let c = digit_at(line, 2);
-    Line::Readable(Step::Wire(c, e))
+    Some(Step::Wire(digit_at(line, 2), e))
 }
 
-fn byte_event(line: &[u8]) -> Line
-    ensures { result ≡ wire_line line.now (Event.Byte (byte_at line.now 9)) }
-{
-    let b = byte_at(line, 9);
-    wire(line, Event::Byte(b))
-}
-
-fn read_fault(line: &[u8]) -> Line
+#[tactic(auto, using(laws::specs::Cases::cases), unfolding(crate::specs::Grammar::fault_line))]
+fn read_fault(line: &[u8]) -> Option<Step>
     ensures { result ≡ fault_line line.now }
 {
     if in_form(b"E c SDA", line) {
@@ -101,10 +73,11 @@ fn read_fault(line: &[u8]) -> Line
     if in_form(b"E c ILL", line) {
         return wire(line, Event::Ill);
     }
-    Line::Unreadable
+    None
 }
 
-fn read_clock(line: &[u8]) -> Line
+#[tactic(auto, using(laws::specs::Cases::cases), unfolding(crate::specs::Grammar::clock_line))]
+fn read_clock(line: &[u8]) -> Option<Step>
     ensures { result ≡ clock_line line.now }
 {
     if in_form(b"E c TICK", line) {
@@ -116,7 +89,8 @@ fn read_clock(line: &[u8]) -> Line
     read_fault(line)
 }
 
-fn read_event(line: &[u8]) -> Line
+#[tactic(auto, using(laws::specs::Cases::cases), unfolding(crate::specs::Grammar::line_room, crate::specs::Grammar::event_line))]
+fn read_event(line: &[u8]) -> Option<Step>
     ensures { result ≡ event_line line.now }
 {
     if in_form(b"E c ACK", line) {
@@ -129,38 +103,40 @@ fn read_event(line: &[u8]) -> Line
         return wire(line, Event::Ninth(Level::High));
     }
     if in_form(b"E c BYTE bb", line) {
-        return byte_event(line);
+        return wire(line, Event::Byte(byte_at(line, 9)));
     }
     read_clock(line)
 }
 
-fn read_edge(line: &[u8]) -> Line
+#[tactic(auto, using(laws::specs::Cases::cases), unfolding(crate::specs::Grammar::edge_line))]
+fn read_edge(line: &[u8]) -> Option<Step>
     ensures { result ≡ edge_line line.now }
 {
     if in_form(b"T R", line) {
-        return Line::Readable(Step::Trigger(Edge::Rising));
+        return Some(Step::Trigger(Edge::Rising));
     }
     if in_form(b"T F", line) {
-        return Line::Readable(Step::Trigger(Edge::Falling));
+        return Some(Step::Trigger(Edge::Falling));
     }
     read_event(line)
 }
 
 // The step of a line, which has no LF.
-pub fn read_line(line: &[u8]) -> Line
+#[tactic(auto, using(laws::specs::Cases::cases), unfolding(crate::specs::Grammar::line_room, crate::specs::Grammar::line_of))]
+pub fn read_line(line: &[u8]) -> Option<Step>
     ensures { result ≡ line_of line.now }
 {
     if in_form(b"W aa dd", line) {
-        return Line::Readable(Step::Write(byte_at(line, 2), byte_at(line, 5)));
+        return Some(Step::Write(byte_at(line, 2), byte_at(line, 5)));
     }
     if in_form(b"R aa", line) {
-        return Line::Readable(Step::Read(byte_at(line, 2)));
+        return Some(Step::Read(byte_at(line, 2)));
     }
     if in_form(b"X", line) {
-        return Line::Readable(Step::Reset(Device::Pca9663));
+        return Some(Step::Reset(Device::Pca9663));
     }
     if in_form(b"X 9669", line) {
-        return Line::Readable(Step::Reset(Device::Pcu9669));
+        return Some(Step::Reset(Device::Pcu9669));
     }
     read_edge(line)
 }

@@ -1,5 +1,6 @@
 -- What the two commands come to: a channel's file after a script, and the script that types a file.
-use Rattle.std.specs.Prelude.{ℕ, ◌≤◌, List, ◌≡◌, length}
+use Rattle.std.specs.Prelude.{ℕ, ◌≤◌, List, ◌≡◌, length, eqb, Result, Ok, Err, IfOk}
+use Rattle.laws.specs.Pick.{when◌then◌else◌}
 use Rattle.rules.specs.Numbers.{done}
 use Rattle.rules.specs.declared.parts.Device.TheVariants.{Pca9663}
 use Rattle.mixes.specs.Mix.{ends}
@@ -12,7 +13,6 @@ use Rattle.runner.specs.Text.{lines_of}
 use Rattle.files.specs.File.{size_in}
 use Rattle.files.specs.Deeds.{load_work, save_work}
 use Rattle.seq.specs.declared.commands.Saved.{Saved}
-use Rattle.seq.specs.declared.commands.Loaded.{Loaded}
 use Rattle.seq.specs.Lines.{none_yet, tallied}
 use Rattle.seq.specs.Typing.{script_of, typing_all}
 
@@ -20,16 +20,19 @@ use Rattle.seq.specs.Typing.{script_of, typing_all}
 abbrev pub after_script : List ℕ → State
 after_script script = ends the_script (at_reset Pca9663) (lines_of script)
 
+-- the length of what was made, by the number of the library's answer; or a refusal's number
+abbrev pub sized : ℕ → ℕ → Result ℕ ℕ
+sized number len = when eqb number done then Ok len else Err number
+
 -- `save c`: the library's answer and output for channel c after the script, over the output o; and how many bytes of it are the file
 pub record Saves (c : ℕ) (script o : List ℕ) (r : Saved) (o' : List ℕ) : Type 0 where
   pub tally : r.tally ≡ tallied (at_reset Pca9663) none_yet (lines_of script)
-  pub number : r.number ≡ (work_reply (after_script script) c (save_work o)).answer.number
+  pub answer : r.len ≡ sized (work_reply (after_script script) c (save_work o)).answer.number (size_in o')
   pub file : o' ≡ (work_reply (after_script script) c (save_work o)).out
-  pub size : r.number ≡ done → r.len ≡ size_in o'
-  pub fits : r.len ≤ length o'
+  pub fits : IfOk r.len (λ n. n ≤ length o')
 
 -- `load c`: the library's answer for a part after a reset; and where it is 0, the script of the writes that type the file
-pub record Loads (c : ℕ) (f o : List ℕ) (r : Loaded) (o' : List ℕ) : Type 0 where
-  pub number : r.number ≡ (work_reply (at_reset Pca9663) c (load_work f)).answer.number
-  pub script : r.number ≡ done → Put o 0 (script_of (typing_all c f)) r.len o'
-  pub fits : r.len ≤ length o'
+pub record Loads (c : ℕ) (f o : List ℕ) (r : Result ℕ ℕ) (o' : List ℕ) : Type 0 where
+  pub answer : r ≡ sized (work_reply (at_reset Pca9663) c (load_work f)).answer.number (length (script_of (typing_all c f)))
+  pub script : IfOk r (λ n. Put o 0 (script_of (typing_all c f)) n o')
+  pub fits : IfOk r (λ n. n ≤ length o')

@@ -1,5 +1,5 @@
 -- What `./seq save` makes of a script's lines: the part and the memory after them, and which of them were refused.
-use Rattle.std.specs.Prelude.{ℕ, ◌+◌, List, [], ◌∷◌, ◌≡◌, eqb}
+use Rattle.std.specs.Prelude.{ℕ, ◌+◌, List, [], ◌∷◌, ◌≡◌, eqb, Option, Some, None}
 use Rattle.laws.specs.Pick.{when◌then◌else◌}
 use Rattle.rules.specs.Numbers.{done}
 use Rattle.rules.specs.declared.parts.Device.TheVariants.{Pca9663}
@@ -8,6 +8,7 @@ use Rattle.mixes.specs.Mix.{ends}
 use Rattle.independent.specs.Statement.{State}
 use Rattle.runner.specs.Run.{start, the_script}
 use Rattle.runner.specs.Text.{lines_of}
+use Rattle.seq.specs.declared.lines.Refused.{Refused}
 use Rattle.seq.specs.declared.lines.Tally.{Tally}
 use Rattle.seq.specs.declared.lines.Ran.{Ran}
 
@@ -17,14 +18,17 @@ input_room = 1048576
 
 -- no line yet
 abbrev pub none_yet : Tally
-none_yet = record { lines = 0; refused = 0; first = 0; number = done }
+none_yet = record { lines = 0; refused = 0; first = None }
+
+-- the first refused line after one more, which got number n
+abbrev pub first_of : Tally → ℕ → Option Refused
+first_of t n = when eqb t.refused 0 then Some (record { line = t.lines + 1; number = n }) else t.first
 
 -- one more line, which got number n: any number but 0 is a refusal, and the first of them is kept
 unfoldable pub counted : Tally → ℕ → Tally
 counted t n =
-    when eqb n done then record { lines = t.lines + 1; refused = t.refused; first = t.first; number = t.number } else
-    when eqb t.refused 0 then record { lines = t.lines + 1; refused = 1; first = t.lines + 1; number = n } else
-    record { lines = t.lines + 1; refused = t.refused + 1; first = t.first; number = t.number }
+    when eqb n done then record { lines = t.lines + 1; refused = t.refused; first = t.first } else
+    record { lines = t.lines + 1; refused = t.refused + 1; first = first_of t n }
 
 -- the tally of some lines, from a state on, behind those before them
 unfoldable pub tallied : State → Tally → List (List ℕ) → Tally

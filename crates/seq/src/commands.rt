@@ -10,19 +10,11 @@ use crate::typing::type_file;
 use part::Part;
 use rules::{DONE, Device, MEMORY, byte};
 
-// The tally of a script's lines, the number of the library's answer, and where that is 0 the bytes of the file.
+// The tally of a script's lines, and the length of the file, or the number of the library's refusal.
 #[derive(Clone, Copy)]
 pub struct Saved {
     pub tally: Tally,
-    pub number: u8,
-    pub len: usize,
-}
-
-// The number of the library's answer, and where that is 0 the bytes of the script.
-#[derive(Clone, Copy)]
-pub struct Loaded {
-    pub number: u8,
-    pub len: usize,
+    pub len: Result<usize, u8>,
 }
 
 // The length that a file's header says.
@@ -38,42 +30,32 @@ pub fn save_file(c: u8, script: &[u8], file: &mut [u8]) -> Saved
     requires { (length script.now < input_room) × (largest ≤ length file.old) }
     ensures { Saves c script.now file.old result file.new }
 {
-    let mut mem = [0u8; MEMORY];
+    let mut mem = [0; MEMORY];
     let ran = run_lines(script, &mut mem);
-    let part = ran.part;
-    let tally = ran.tally;
-    let r = files::save_from(part, &mem, c, file);
-    let answer = r.answer;
-    if answer.number == DONE {
+    let r = files::save_from(ran.part, &mem, c, file);
+    let number = r.answer.number;
+    if number != DONE {
         return Saved {
-            tally,
-            number: DONE,
-            len: size(file),
+            tally: ran.tally,
+            len: Err(number),
         };
     }
     Saved {
-        tally,
-        number: answer.number,
-        len: 0,
+        tally: ran.tally,
+        len: Ok(size(file)),
     }
 }
 
-// The script that types a file into channel c of a part after a reset.
-pub fn load_text(c: u8, file: &[u8], out: &mut [u8]) -> Loaded
+// The script that types a file into channel c of a part after a reset: its length, or the number of the library's refusal.
+pub fn load_text(c: u8, file: &[u8], out: &mut [u8]) -> Result<usize, u8>
     requires { text_room ≤ length out.old }
     ensures { Loads c file.now out.old result out.new }
 {
-    let mut mem = [0u8; MEMORY];
+    let mut mem = [0; MEMORY];
     let r = files::load_into(Part::new(Device::Pca9663), &mut mem, c, file);
-    let answer = r.answer;
-    if answer.number == DONE {
-        return Loaded {
-            number: DONE,
-            len: type_file(c, file, out),
-        };
+    let number = r.answer.number;
+    if number != DONE {
+        return Err(number);
     }
-    Loaded {
-        number: answer.number,
-        len: 0,
-    }
+    Ok(type_file(c, file, out))
 }

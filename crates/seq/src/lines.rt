@@ -5,15 +5,21 @@ ghost use Rattle.seq.specs.Lines.{input_room, none_yet, counted, Runs};
 
 use part::{Part, PartStepped};
 use rules::{DONE, Device};
-use script::Line;
+use steps::Step;
 
-// The lines so far: how many there are and how many were refused, and of the first refused one its number and its answer's.
+// A refused line: which one it is, and its answer's number.
+#[derive(Clone, Copy)]
+pub struct Refused {
+    pub line: u64,
+    pub number: u8,
+}
+
+// The lines so far: how many there are, how many were refused, and the first of these.
 #[derive(Clone, Copy)]
 pub struct Tally {
     pub lines: u64,
     pub refused: u64,
-    pub first: u64,
-    pub number: u8,
+    pub first: Option<Refused>,
 }
 
 // What a script leaves: the part, and the tally of its lines.
@@ -23,55 +29,44 @@ pub struct Ran {
     pub tally: Tally,
 }
 
-fn none_yet() -> Tally
-    ensures { result ≡ none_yet }
-{
-    Tally {
-        lines: 0,
-        refused: 0,
-        first: 0,
-        number: DONE,
+impl Tally {
+    fn new() -> Self
+        ensures { result ≡ none_yet }
+    {
+        Tally {
+            lines: 0,
+            refused: 0,
+            first: None,
+        }
     }
-}
 
-// One more line, which got this number.
-fn count(t: Tally, n: u8) -> Tally
-    requires { (t.lines < input_room) × (t.refused ≤ t.lines) }
-    ensures { (result ≡ counted t n) × (result.lines ≡ t.lines + 1) × (result.refused ≤ result.lines) }
-{
-    let lines = t.lines + 1;
-    if n == DONE {
-        return Tally {
-            lines,
-            refused: t.refused,
-            first: t.first,
-            number: t.number,
-        };
-    }
-    if t.refused == 0 {
-        return Tally {
-            lines,
-            refused: 1,
-            first: lines,
-            number: n,
-        };
-    }
-    Tally {
-        lines,
-        refused: t.refused + 1,
-        first: t.first,
-        number: t.number,
+    // One more line, which got this number.
+    fn count(&mut self, number: u8)
+        requires { (self.old.lines < input_room) × (self.old.refused ≤ self.old.lines) }
+        ensures { (self.new ≡ counted self.old number) × (self.new.lines ≡ self.old.lines + 1) × (self.new.refused ≤ self.new.lines) }
+    {
+        self.lines += 1;
+        if number == DONE {
+            return;
+        }
+        if self.refused == 0 {
+            self.first = Some(Refused {
+                line: self.lines,
+                number,
+            });
+        }
+        self.refused += 1;
     }
 }
 
 // A line that can't be read is no. 8, and leaves all.
-fn do_line(p: Part, mem: &mut [u8], line: Line) -> PartStepped
-    ensures { (start result.part mem.new ≡ after_line (start p mem.old) line) × (result.answer ≡ line_answer (start p mem.old) line) }
+fn do_line(part: Part, mem: &mut [u8], line: Option<Step>) -> PartStepped
+    ensures { (start result.part mem.new ≡ after_line (start part mem.old) line) × (result.answer ≡ line_answer (start part mem.old) line) }
 {
     match line {
-        Line::Readable(s) => p.step(mem, s),
-        Line::Unreadable => PartStepped {
-            part: p,
+        Some(step) => part.step(mem, step),
+        None => PartStepped {
+            part,
             answer: answers::unreadable(),
         },
     }
@@ -83,15 +78,14 @@ pub fn run_lines(text: &[u8], mem: &mut [u8]) -> Ran
     ensures { Runs text.now mem.old result mem.new }
 {
     let mut part = Part::new(Device::Pca9663);
-    let mut tally = none_yet();
+    let mut tally = Tally::new();
     let mut from = 0;
+    // by places, as `runner::line_end` promises them
     while from < text.len() {
         let end = runner::line_end(text, from);
         let r = do_line(part, mem, script::read_line(&text[from..end]));
-        let next = r.part;
-        part = next;
-        let answer = r.answer;
-        tally = count(tally, answer.number);
+        part = r.part;
+        tally.count(r.answer.number);
         from = end + 1;
     }
     Ran { part, tally }

@@ -19,8 +19,7 @@ fn put_write(out: &mut [u8], at: usize, a: u8, v: u8) -> usize
     let place = digit(a % 16);
     let high = digit(v / 16);
     let low = digit(v % 16);
-    let text = [b'W', b' ', page, place, b' ', high, low, b'\n'];
-    answers::put(out, at, &text)
+    answers::put(out, at, &[b'W', b' ', page, place, b' ', high, low, b'\n'])
 }
 
 // A line for each byte, all to one address.
@@ -29,10 +28,8 @@ fn put_each(out: &mut [u8], at: usize, a: u8, bytes: &[u8]) -> usize
     ensures { Put out.old at (script_of (each_to a bytes.now)) result out.new × (result ≡ at + 8 * length bytes.now) }
 {
     let mut next = at;
-    let mut i = 0;
-    while i < bytes.len() {
-        next = put_write(out, next, a, bytes[i]);
-        i += 1;
+    for &v in bytes {
+        next = put_write(out, next, a, v);
     }
     next
 }
@@ -49,13 +46,13 @@ fn type_blocks(
     requires { (base < 240) × (length addresses.now ≤ 64) × (length lengths.now ≤ 64) × (length bytes.now ≤ buffer_size) × (text_room ≤ length out.old) }
     ensures { Put out.old 0 (script_of (blocks_typed base count addresses.now lengths.now bytes.now)) result out.new × (result ≤ text_room) }
 {
-    let a = put_write(out, 0, base + 6, 0);
-    let b = put_write(out, a, base, 2);
-    let d = put_write(out, b, base + 4, count);
-    let e = put_each(out, d, base + 4, lengths);
-    let f = put_each(out, e, base + 3, addresses);
-    let g = put_each(out, f, base + 5, bytes);
-    put_write(out, g, base, 2)
+    let at = put_write(out, 0, base + 6, 0);
+    let at = put_write(out, at, base, 2);
+    let at = put_write(out, at, base + 4, count);
+    let at = put_each(out, at, base + 4, lengths);
+    let at = put_each(out, at, base + 3, addresses);
+    let at = put_each(out, at, base + 5, bytes);
+    put_write(out, at, base, 2)
 }
 
 // The script that types a file into channel c.

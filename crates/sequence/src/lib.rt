@@ -6,7 +6,7 @@ mod wires;
 
 pub use walk::{
     end_flags, end_walk, fault_flags, idle_walk, late_flags, late_walk, nack_flags, no_flags,
-    note_error, record_seq, record_sto, to_phase, waiting_walk,
+    waiting_walk,
 };
 pub use wires::{
     Ask, Beat, Beginning, Ending, Fault, Move, Next, Tail, Turn, again_by, ask_of, begins,

@@ -1,4 +1,6 @@
 // Document 01, 'A sequence on the wires': what a write to CONTROL asks for, how a frame begins, what an event comes to, where a walk goes on, how a frame ends, and a trigger edge.
+#![tactic(auto, using(crate::proofs::Laws::Wires::frames), unfolding(crate::specs::Wires::stop_asked, crate::specs::Wires::start_asked, crate::specs::Wires::leave_asked, crate::specs::Wires::asked_in, crate::specs::Wires::ask_of, crate::specs::Wires::beginning_of, crate::specs::Wires::masked_of, crate::specs::Wires::halted_of, crate::specs::Wires::next_of, crate::specs::Wires::reach_of, crate::specs::Wires::move_of, crate::specs::Wires::ticking_of, crate::specs::Wires::tick_turn, crate::specs::Wires::heard_turn, crate::specs::Wires::turn_of, crate::specs::Wires::ending_of, crate::specs::Wires::rest_of, crate::specs::Wires::fld_after, crate::specs::Wires::edge_beat))]
+
 ghost use Rattle.std.specs.Prelude.{◌≡◌, ◌+◌, ◌<◌, ◌≤◌, length, set, get_or};
 ghost use Rattle.rules.specs.Numbers.{buffer_size};
 ghost use Rattle.rules.specs.Tables.{start_of};
@@ -8,11 +10,12 @@ ghost use Rattle.sequence.specs.Wires.{ticking_of, beat_of, beat_turn, tick_turn
 ghost use Rattle.sequence.specs.Facts.{Counting, Ready, Exists};
 
 use rules::{
-    Action, Command, Edge, Event, Kind, Level, Phase, REMSK, WEMSK, bit, first_sent, is_fm,
+    Action, Command, Edge, Event, Kind, Level, Phase, REMSK, WEMSK, bit, byte, first_sent, is_fm,
+    start_of,
 };
 
 // What is left of a write to CONTROL after TP, TE and the pointer resets.
-#[derive(Clone, Copy)]
+#[derive(Clone, Copy, PartialEq, Eq)]
 pub enum Ask {
     Nothing,
     Overrun,
@@ -24,7 +27,7 @@ pub enum Ask {
 }
 
 // How a frame begins.
-#[derive(Clone, Copy)]
+#[derive(Clone, Copy, PartialEq, Eq)]
 pub enum Beginning {
     Empty,
     Unfit,
@@ -32,7 +35,7 @@ pub enum Beginning {
 }
 
 // What an event comes to in the phase that it meets.
-#[derive(Clone, Copy)]
+#[derive(Clone, Copy, PartialEq, Eq)]
 pub enum Turn {
     Unawaited,
     AckAddress(usize),
@@ -47,29 +50,29 @@ pub enum Turn {
 }
 
 // After a byte, or the address of a write: cut short, one more byte, or over.
-#[derive(Clone, Copy)]
+#[derive(Clone, Copy, PartialEq, Eq)]
 pub enum Next {
     Cut,
     More,
     Over,
 }
 
-// The next move of a walk: a stop, or the transaction to send.
-#[derive(Clone, Copy)]
+// The next move of a walk: a stop, or the transaction to send. No `Option`: 'the helper's next-move enum is taken apart by let .. else'.
+#[derive(Clone, Copy, PartialEq, Eq)]
 pub enum Move {
     Halt,
     Send(usize),
 }
 
 // Whether the last byte has yet to be refused by the channel itself: P and R, or NP and NR.
-#[derive(Clone, Copy)]
+#[derive(Clone, Copy, PartialEq, Eq)]
 pub enum Tail {
     Plain,
     Nacked,
 }
 
 // What a TICK or a matching trigger edge does: nothing, begin a frame, or be late.
-#[derive(Clone, Copy)]
+#[derive(Clone, Copy, PartialEq, Eq)]
 pub enum Beat {
     Quiet,
     Begin,
@@ -77,7 +80,7 @@ pub enum Beat {
 }
 
 // SDA, SCL and ILL, by the flag that each sets.
-#[derive(Clone, Copy)]
+#[derive(Clone, Copy, PartialEq, Eq)]
 pub enum Fault {
     Dae,
     Cle,
@@ -85,7 +88,7 @@ pub enum Fault {
 }
 
 // How a frame ends: FE recorded, an error end, SD and Idle, or SD and Waiting with the number of ended frames.
-#[derive(Clone, Copy)]
+#[derive(Clone, Copy, PartialEq, Eq)]
 pub enum Ending {
     Fe,
     Error,
@@ -99,28 +102,30 @@ fn stop_asked(sto: bool, seq: bool) -> Ask
     ensures { result ≡ stop_asked sto seq }
 {
     if sto {
-        return Ask::Sto;
+        Ask::Sto
+    } else if seq {
+        Ask::Seq
+    } else {
+        Ask::Nothing
     }
-    if seq { Ask::Seq } else { Ask::Nothing }
 }
 
 fn start_asked(sta: bool, te: bool) -> Ask
     ensures { result ≡ start_asked sta te }
 {
-    if sta {
-        if te { Ask::Wait } else { Ask::Begin }
-    } else {
+    if !sta {
         Ask::Nothing
+    } else if te {
+        Ask::Wait
+    } else {
+        Ask::Begin
     }
 }
 
 fn leave_asked(sto: bool, seq: bool) -> Ask
     ensures { result ≡ leave_asked sto seq }
 {
-    if sto {
-        return Ask::Leave;
-    }
-    if seq { Ask::Leave } else { Ask::Nothing }
+    if sto || seq { Ask::Leave } else { Ask::Nothing }
 }
 
 fn asked_in(p: Phase, k: Command, te: bool) -> Ask
@@ -128,11 +133,8 @@ fn asked_in(p: Phase, k: Command, te: bool) -> Ask
 {
     match p {
         Phase::Idle => start_asked(k.sta, te),
-        Phase::Address(_) => stop_asked(k.sto, k.stoseq),
-        Phase::Sending(_) => stop_asked(k.sto, k.stoseq),
-        Phase::Receiving(_) => stop_asked(k.sto, k.stoseq),
-        Phase::Stopping => stop_asked(k.sto, k.stoseq),
         Phase::Waiting => leave_asked(k.sto, k.stoseq),
+        _ => stop_asked(k.sto, k.stoseq),
     }
 }
 
@@ -152,9 +154,8 @@ pub fn begins(count: usize, fit: bool) -> Beginning
     ensures { result ≡ beginning_of count fit }
 {
     if count == 0 {
-        return Beginning::Empty;
-    }
-    if fit {
+        Beginning::Empty
+    } else if fit {
         Beginning::Fit
     } else {
         Beginning::Unfit
@@ -176,12 +177,9 @@ fn ack_turn(p: Phase) -> Turn
     ensures { result ≡ ack_turn p }
 {
     match p {
-        Phase::Idle => Turn::Unawaited,
         Phase::Address(n) => Turn::AckAddress(n as usize),
         Phase::Sending(n) => Turn::AckSending(n as usize),
-        Phase::Receiving(_) => Turn::Unawaited,
-        Phase::Stopping => Turn::Unawaited,
-        Phase::Waiting => Turn::Unawaited,
+        _ => Turn::Unawaited,
     }
 }
 
@@ -189,12 +187,8 @@ fn byte_turn(p: Phase, b: u8) -> Turn
     ensures { result ≡ byte_turn p b }
 {
     match p {
-        Phase::Idle => Turn::Unawaited,
-        Phase::Address(_) => Turn::Unawaited,
-        Phase::Sending(_) => Turn::Unawaited,
         Phase::Receiving(n) => Turn::Receive(n as usize, b),
-        Phase::Stopping => Turn::Unawaited,
-        Phase::Waiting => Turn::Unawaited,
+        _ => Turn::Unawaited,
     }
 }
 
@@ -202,12 +196,9 @@ fn nack_turn(p: Phase) -> Turn
     ensures { result ≡ nack_turn p }
 {
     match p {
-        Phase::Idle => Turn::Unawaited,
         Phase::Address(n) => Turn::NackAddress(n as usize),
         Phase::Sending(n) => Turn::NackSending(n as usize),
-        Phase::Receiving(_) => Turn::Unawaited,
-        Phase::Stopping => Turn::Unawaited,
-        Phase::Waiting => Turn::Unawaited,
+        _ => Turn::Unawaited,
     }
 }
 
@@ -224,11 +215,7 @@ fn ninth_turn(p: Phase, l: Level) -> Turn
 pub fn masked(intmsk: u8, read: bool) -> bool
     ensures { result ≡ masked_of intmsk read }
 {
-    if read {
-        bit(intmsk, REMSK)
-    } else {
-        bit(intmsk, WEMSK)
-    }
+    bit(intmsk, if read { REMSK } else { WEMSK })
 }
 
 // ---- after each
@@ -236,17 +223,19 @@ pub fn masked(intmsk: u8, read: bool) -> bool
 pub fn halted(fe: bool, sto: bool) -> bool
     ensures { result ≡ halted_of fe sto }
 {
-    if fe { true } else { sto }
+    fe || sto
 }
 
 // What follows n bytes of a transaction.
 pub fn next_byte(halt: bool, n: usize, len: usize) -> Next
     ensures { (result ≡ next_of halt n len) × Ready result n len }
 {
-    if n < len {
-        if halt { Next::Cut } else { Next::More }
-    } else {
+    if len <= n {
         Next::Over
+    } else if halt {
+        Next::Cut
+    } else {
+        Next::More
     }
 }
 
@@ -255,8 +244,7 @@ pub fn count_one(counts: &mut [u8; 64], n: usize)
     requires { (n < 64) × (get_or counts.old n 0 < 255) }
     ensures { counts.new ≡ set counts.old n (get_or counts.old n 0 + 1) }
 {
-    let k = counts[n];
-    counts[n] = k + 1;
+    counts[n] += 1;
 }
 
 // The byte of a BYTE stored: behind those of transaction n that came before it.
@@ -264,7 +252,7 @@ pub fn store(lens: &[u8; 65], counts: &[u8; 64], mem: &mut [u8], n: usize, b: u8
     requires { Counting lens.now counts.now n × (length mem.old ≡ buffer_size) }
     ensures { mem.new ≡ set mem.old (start_of lens.now n + get_or counts.now n 0) b }
 {
-    let i = rules::start_of(lens, n) + rules::byte(counts[n]);
+    let i = start_of(lens, n) + byte(counts[n]);
     mem[i] = b;
 }
 
@@ -276,8 +264,7 @@ pub fn reach(kind: Kind, halt: bool, n: usize, sla: &[u8; 64], lens: &[u8; 65]) 
     if halt {
         return n + 1;
     }
-    let count = lens[0];
-    first_sent(kind, sla, lens, n + 1, count as usize)
+    first_sent(kind, sla, lens, n + 1, byte(lens[0]))
 }
 
 // Either a stop or the transaction to send.
@@ -285,13 +272,10 @@ pub fn next_move(halt: bool, to: usize, count: usize) -> Move
     requires { count ≤ 64 }
     ensures { (result ≡ move_of halt to count) × Exists result }
 {
-    if halt {
-        return Move::Halt;
-    }
-    if to < count {
-        Move::Send(to)
-    } else {
+    if halt || count <= to {
         Move::Halt
+    } else {
+        Move::Send(to)
     }
 }
 
@@ -309,7 +293,7 @@ pub fn stop_by(t: Tail) -> Action
 fn ticking(te: bool, framecnt: u8) -> bool
     ensures { result ≡ ticking_of te framecnt }
 {
-    if te { false } else { framecnt != 1 }
+    !te && framecnt != 1
 }
 
 fn beat_of(p: Phase) -> Beat
@@ -317,11 +301,8 @@ fn beat_of(p: Phase) -> Beat
 {
     match p {
         Phase::Idle => Beat::Quiet,
-        Phase::Address(_) => Beat::Late,
-        Phase::Sending(_) => Beat::Late,
-        Phase::Receiving(_) => Beat::Late,
-        Phase::Stopping => Beat::Late,
         Phase::Waiting => Beat::Begin,
+        _ => Beat::Late,
     }
 }
 
@@ -349,12 +330,8 @@ fn stop_turn(p: Phase) -> Turn
     ensures { result ≡ stop_turn p }
 {
     match p {
-        Phase::Idle => Turn::Unawaited,
-        Phase::Address(_) => Turn::Unawaited,
-        Phase::Sending(_) => Turn::Unawaited,
-        Phase::Receiving(_) => Turn::Unawaited,
         Phase::Stopping => Turn::End,
-        Phase::Waiting => Turn::Unawaited,
+        _ => Turn::Unawaited,
     }
 }
 
@@ -362,12 +339,8 @@ fn sda_turn(p: Phase) -> Turn
     ensures { result ≡ sda_turn p }
 {
     match p {
-        Phase::Idle => Turn::Unawaited,
         Phase::Address(_) => Turn::Fault(Fault::Dae),
-        Phase::Sending(_) => Turn::Unawaited,
-        Phase::Receiving(_) => Turn::Unawaited,
-        Phase::Stopping => Turn::Unawaited,
-        Phase::Waiting => Turn::Unawaited,
+        _ => Turn::Unawaited,
     }
 }
 
@@ -376,11 +349,7 @@ fn scl_turn(p: Phase) -> Turn
 {
     match p {
         Phase::Idle => Turn::Unawaited,
-        Phase::Address(_) => Turn::Fault(Fault::Cle),
-        Phase::Sending(_) => Turn::Fault(Fault::Cle),
-        Phase::Receiving(_) => Turn::Fault(Fault::Cle),
-        Phase::Stopping => Turn::Fault(Fault::Cle),
-        Phase::Waiting => Turn::Fault(Fault::Cle),
+        _ => Turn::Fault(Fault::Cle),
     }
 }
 
@@ -406,13 +375,8 @@ fn hears(kind: Kind, e: Event) -> bool
 {
     let fm = is_fm(kind);
     match e {
-        Event::Ninth(_) => fm,
-        Event::Byte(_) => fm,
-        Event::Tick => true,
-        Event::Stop => true,
-        Event::Sda => fm,
-        Event::Scl => fm,
-        Event::Ill => true,
+        Event::Tick | Event::Stop | Event::Ill => true,
+        Event::Ninth(_) | Event::Byte(_) | Event::Sda | Event::Scl => fm,
         Event::Sent => !fm,
     }
 }
@@ -435,28 +399,22 @@ pub fn ends(fe: bool, error: bool, sto: bool, seq: bool, rest: Ending) -> Ending
     ensures { result ≡ ending_of fe error sto seq rest }
 {
     if fe {
-        return Ending::Fe;
+        Ending::Fe
+    } else if error {
+        Ending::Error
+    } else if sto || seq {
+        Ending::Sd
+    } else {
+        rest
     }
-    if error {
-        return Ending::Error;
-    }
-    if sto {
-        return Ending::Sd;
-    }
-    if seq { Ending::Sd } else { rest }
 }
 
 pub fn rest(te: bool, framecnt: u8, ended: u8) -> Ending
     ensures { result ≡ rest_of te framecnt ended }
 {
-    if te {
-        return Ending::Wait(0);
-    }
-    if framecnt == 0 {
-        return Ending::Wait(0);
-    }
-    let last = framecnt - 1;
-    if ended < last {
+    if te || framecnt == 0 {
+        Ending::Wait(0)
+    } else if ended < framecnt - 1 {
         Ending::Wait(ended + 1)
     } else {
         Ending::Sd
@@ -467,10 +425,7 @@ pub fn rest(te: bool, framecnt: u8, ended: u8) -> Ending
 pub fn fld_after(te: bool, framecnt: u8, old: bool) -> bool
     ensures { result ≡ fld_after te framecnt old }
 {
-    if te {
-        return true;
-    }
-    if framecnt == 1 { old } else { true }
+    te || framecnt != 1 || old
 }
 
 // ---- a trigger edge
@@ -488,12 +443,8 @@ fn matches(tp: bool, edge: Edge) -> bool
 pub fn edge_beat(p: Phase, te: bool, tp: bool, edge: Edge) -> Beat
     ensures { result ≡ edge_beat p te tp edge }
 {
-    if te {
-        if matches(tp, edge) {
-            beat_of(p)
-        } else {
-            Beat::Quiet
-        }
+    if te && matches(tp, edge) {
+        beat_of(p)
     } else {
         Beat::Quiet
     }

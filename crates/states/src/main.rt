@@ -4,209 +4,72 @@
 // byte of the memory were left, and whether the part pulls INT with the record as its channel 1; or that the row can't be read. Lines that begin with # are passed over.
 #![tactic(auto)]
 
-mod names;
-mod record;
+mod case;
 
-ghost use Rattle.std.specs.Prelude.{◌<◌, ◌≤◌, length};
-
-use channel::{Channel, Stepped};
-use names::Case;
-use part::{Part, PartStepped};
-use record::byte;
+use case::Case;
 use rules::{Device, Edge};
-use script::Line;
-use std::io::Read;
+use std::io::Cursor;
+use std::{io, str};
 use steps::{Op, Step};
 
-// A write that fails is left: what has come out is looked at, and nothing else here could say it.
-fn say(out: &impl Print, text: &[u8]) {
-    let _ = out.write_all(text);
-}
+// The most bytes of rows.
+const ROOM: usize = 65536;
 
-fn say_result(out: &impl Print, number: u8, left: bool) {
-    say(out, b" ");
-    let _ = out.print(number);
-    if left {
-        say(out, b" left");
-    } else {
-        say(out, b" changed");
+// A step of a channel, as the single one takes it.
+fn op_of(step: Step) -> Option<Op> {
+    match step {
+        Step::Write(a, v) => Some(Op::Write(a, v)),
+        Step::Read(a) => Some(Op::Read(a)),
+        Step::Wire(_, e) => Some(Op::Wire(e)),
+        Step::Trigger(_) | Step::Reset(_) => None,
     }
 }
 
-fn say_level(out: &impl Print, pulled: bool) {
-    if pulled {
-        say(out, b" pulled");
-    } else {
-        say(out, b" free");
+// Each comma ends an alteration, and a space may follow it; behind the last one is the step.
+fn read_row(row: &[u8]) -> Option<(Case, Op, Step)> {
+    let mut case = Case::new();
+    let mut rest = str::from_utf8(row).ok()?;
+    while let Some((item, behind)) = rest.split_once(',') {
+        case.alter(item)?;
+        rest = behind.strip_prefix(' ').unwrap_or(behind);
     }
-}
-
-// ---- the calls
-
-// The lent bytes are the first ones of a longer memory.
-fn untouched(mem: &[u8; 13058]) -> bool {
-    *mem == [0x3Cu8; 13058]
-}
-
-fn step_channel(c: Channel, number: u8, mem: &mut [u8], n: usize, op: Op) -> Stepped
-    requires { n < length mem.old }
-{
-    c.step(number, &mut mem[0..n], op)
-}
-
-fn step_part(p: Part, mem: &mut [u8], n: usize, s: Step) -> PartStepped
-    requires { n < length mem.old }
-{
-    p.step(&mut mem[0..n], s)
-}
-
-fn call_channel(out: &impl Print, k: [usize; 66], op: Op) {
-    let mut mem = [0x3Cu8; 13058];
-    let c = record::channel_of(k);
-    let r = step_channel(c, byte(k[0x19]), &mut mem, k[0x1A] % 13058, op);
-    let after = r.channel;
-    let left = record::same_channel(c, after) && untouched(&mem);
-    let a = r.answer;
-    say_result(out, a.number, left);
-}
-
-fn call_part(out: &impl Print, k: [usize; 66], i: usize, s: Step)
-    requires { i < 3 }
-{
-    let mut mem = [0x3Cu8; 13058];
-    let p = record::part_of(k, i);
-    let r = step_part(p, &mut mem, k[0x1B] % 13058, s);
-    let after = r.part;
-    let left = record::same_part(p, after) && untouched(&mem);
-    let a = r.answer;
-    say_result(out, a.number, left);
-}
-
-fn run(out: &impl Print, k: [usize; 66], op: Op, s: Step) {
-    say(out, b": channel");
-    call_channel(out, k, op);
-    say(out, b"; part");
-    call_part(out, k, 0, s);
-    say(out, b"; trigger");
-    call_part(out, k, 1, Step::Trigger(Edge::Rising));
-    say(out, b"; reset");
-    call_part(out, k, 2, Step::Reset(Device::Pca9663));
-    say(out, b"; INT");
-    say_level(out, record::part_of(k, 1).interrupt());
-    say(out, b"\n");
-}
-
-// ---- a row
-
-fn say_unread(out: &impl Print) {
-    say(out, b": can't be read\n");
-}
-
-fn run_step(out: &impl Print, c: Case, s: Step) {
-    let k = c.k;
-    if c.good {
-        match s {
-            Step::Write(a, v) => run(out, k, Op::Write(a, v), s),
-            Step::Read(a) => run(out, k, Op::Read(a), s),
-            Step::Wire(_, e) => run(out, k, Op::Wire(e), s),
-            Step::Trigger(_) => say_unread(out),
-            Step::Reset(_) => say_unread(out),
-        }
-    } else {
-        say_unread(out);
-    }
-}
-
-fn run_line(out: &impl Print, c: Case, l: Line) {
-    match l {
-        Line::Readable(s) => run_step(out, c, s),
-        Line::Unreadable => say_unread(out),
-    }
-}
-
-// The first place from a place on that has a byte, or the end.
-fn find(text: &[u8], from: usize, b: u8) -> usize
-    requires { from ≤ length text.now }
-    ensures { (from ≤ result) × (result ≤ length text.now) }
-{
-    let mut i = from;
-    while i < text.len() {
-        if text[i] == b {
-            return i;
-        }
-        i += 1;
-    }
-    i
-}
-
-// The place behind a comma and the space after it.
-fn behind(row: &[u8], comma: usize) -> usize
-    requires { comma < length row.now }
-    ensures { (comma < result) × (result ≤ length row.now) }
-{
-    let at = comma + 1;
-    if at < row.len() {
-        if row[at] == b' ' {
-            return at + 1;
-        }
-    }
-    at
-}
-
-// Each comma ends an alteration; behind the last one is the step.
-fn run_row(out: &impl Print, row: &[u8]) {
-    let mut c = names::base();
-    let mut from = 0;
-    let mut end = find(row, 0, b',');
-    while end < row.len() {
-        c = names::alter(c, &row[from..end]);
-        from = behind(row, end);
-        end = find(row, from, b',');
-    }
-    run_line(out, c, script::read_line(&row[from..]));
+    let step = script::read_line(rest.as_bytes())?;
+    Some((case, op_of(step)?, step))
 }
 
 fn answer(out: &impl Print, row: &[u8]) {
-    if 0 < row.len() {
-        if row[0] == b'#' {
-            return;
-        }
-    }
-    say(out, row);
-    run_row(out, row);
-}
-
-fn answer_rows(out: &impl Print, text: &[u8]) {
-    let mut from = 0;
-    while from < text.len() {
-        let end = find(text, from, b'\n');
-        answer(out, &text[from..end]);
-        from = end + 1;
-    }
-}
-
-// Reads until the buffer is full, the input ends or a read fails, and gives how many bytes it put at the buffer's start.
-fn read_full(input: &mut impl Read, buf: &mut [u8]) -> usize
-    ensures { result ≤ length buf.new }
-{
-    let mut done = 0;
-    while done < buf.len() {
-        let Ok(n) = input.read(&mut buf[done..]) else {
-            break;
-        };
-        if n == 0 {
-            break;
-        }
-        done += n;
-    }
-    done
+    // A write that fails is left: what has come out is looked at, and nothing else here could say it.
+    let _ = out.write_all(row);
+    let _ = match read_row(row) {
+        Some((case, op, step)) => println!(out;
+            ": channel {}; part {}; trigger {}; reset {}; INT {}",
+            case.step_channel(op),
+            case.step_part(0, step),
+            case.step_part(1, Step::Trigger(Edge::Rising)),
+            case.step_part(2, Step::Reset(Device::Pca9663)),
+            if case.part(1).interrupt() {
+                "pulled"
+            } else {
+                "free"
+            },
+        ),
+        None => println!(out; ": can't be read"),
+    };
 }
 
 fn main(rt: HostRuntime) {
-    let mut text = [0u8; 65536];
-    let n = read_full(&mut rt.stdin(), &mut text);
-    answer_rows(&rt, &text[..n]);
-    if n == text.len() {
-        say(&rt, b"there is no room for rows behind these\n");
+    let mut text = [0; ROOM];
+    let mut input = Cursor::new(&mut text[..]);
+    // a read that fails ends the input
+    let _ = io::copy(&mut rt.stdin(), &mut input);
+    let n = ROOM.min(input.position() as usize);
+    for line in text[..n].split_inclusive(|&b| b == b'\n') {
+        let row = line.strip_suffix(b"\n").unwrap_or(line);
+        if !row.starts_with(b"#") {
+            answer(&rt, row);
+        }
+    }
+    if n == ROOM {
+        let _ = println!(rt; "there is no room for rows behind these");
     }
 }

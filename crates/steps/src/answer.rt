@@ -1,17 +1,20 @@
 // What a step of the part answers.
-ghost use Rattle.std.specs.Prelude.{◌≡◌, ◌<◌};
-ghost use Rattle.steps.specs.Answer.{quiet, act_if, only_at};
+#![tactic(auto, using(laws::specs::Cases::cases), unfolding(crate::specs::Answer::act_if))]
 
-use rules::Action;
+ghost use Rattle.std.specs.Prelude.{◌≡◌, ◌<◌};
+ghost use Rattle.rules.specs.Numbers.{done, refusal_number};
+ghost use Rattle.steps.specs.Answer.{quiet, act_if, only_at, numbered, valued};
+
+use rules::{Action, DONE, Refusal};
 
 // What one channel does on its wires.
-#[derive(Clone, Copy)]
+#[derive(Clone, Copy, PartialEq, Eq)]
 pub struct Act {
     pub action: Action,
 }
 
 // The number of document 01, the value of a read, and an action for each channel.
-#[derive(Clone, Copy)]
+#[derive(Clone, Copy, PartialEq, Eq)]
 pub struct PartAnswer {
     pub number: u8,
     pub value: u8,
@@ -22,32 +25,64 @@ pub struct PartAnswer {
 pub fn no_acts() -> [Act; 3]
     ensures { result ≡ quiet }
 {
-    let a = Act {
+    [Act {
         action: Action::Nothing,
-    };
-    [a, a, a]
+    }; 3]
 }
 
 // The action, if it is this channel's.
 fn act_if(mine: bool, action: Action) -> Act
     ensures { result ≡ act_if mine action }
 {
-    if mine {
-        Act { action }
-    } else {
-        Act {
-            action: Action::Nothing,
-        }
+    Act {
+        action: if mine { action } else { Action::Nothing },
     }
 }
 
-// An action of channel c alone.
+// An action of channel c alone. Entry by entry: a store at an index is slower (docs/SPEED.md).
 pub fn act_at(c: u8, action: Action) -> [Act; 3]
     requires { c < 3 }
     ensures { result ≡ only_at c action }
 {
-    let first = act_if(c == 0, action);
-    let second = act_if(c == 1, action);
-    let third = act_if(c == 2, action);
-    [first, second, third]
+    [
+        act_if(c == 0, action),
+        act_if(c == 1, action),
+        act_if(c == 2, action),
+    ]
+}
+
+impl PartAnswer {
+    // A number and nothing else.
+    pub fn numbered(number: u8) -> Self
+        ensures { result ≡ numbered number }
+    {
+        PartAnswer {
+            number,
+            value: 0,
+            actions: no_acts(),
+        }
+    }
+
+    pub fn done() -> Self
+        ensures { result ≡ numbered done }
+    {
+        PartAnswer::numbered(DONE)
+    }
+
+    pub fn refused(e: Refusal) -> Self
+        ensures { result ≡ numbered (refusal_number e) }
+    {
+        PartAnswer::numbered(e.number())
+    }
+
+    // The value of a read.
+    pub fn reply(value: u8) -> Self
+        ensures { result ≡ valued value }
+    {
+        PartAnswer {
+            number: DONE,
+            value,
+            actions: no_acts(),
+        }
+    }
 }

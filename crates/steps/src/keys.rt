@@ -8,37 +8,19 @@ use crate::map::{Ctrl, Op, Wide};
 pub fn is_ctrlpreset(reg: Ctrl) -> bool
     ensures { result ≡ ctrlpreset_of reg }
 {
-    match reg {
-        Ctrl::Ctrlstatus => false,
-        Ctrl::Ctrlintmsk => false,
-        Ctrl::Reserved => false,
-        Ctrl::DeviceId => false,
-        Ctrl::Ctrlpreset => true,
-        Ctrl::Nothing => false,
-        Ctrl::Ctrlrdy => false,
-    }
+    reg == Ctrl::Ctrlpreset
 }
 
 // Whether a step of a channel is a write.
 pub fn op_writes(op: Op) -> bool
     ensures { result ≡ op_writes op }
 {
-    match op {
-        Op::Write(_, _) => true,
-        Op::Read(_) => false,
-        Op::Wire(_) => false,
-    }
+    matches!(op, Op::Write(..))
 }
 
 // Whether a step of the whole part is one.
 pub fn wide_writes(t: Wide) -> bool
     ensures { result ≡ wide_writes t }
 {
-    match t {
-        Wide::CtrlWrite(_, _) => true,
-        Wide::CtrlRead(_) => false,
-        Wide::AllTrigger(_) => false,
-        Wide::AllReset(_) => false,
-        Wide::Beyond => false,
-    }
+    matches!(t, Wide::CtrlWrite(..))
 }

@@ -1,4 +1,6 @@
 // Document 01, 'The part as the processor sees it': the address map, and whom a step concerns.
+#![tactic(auto, using(laws::specs::Cases::cases), unfolding(crate::specs::Map::channel_at, crate::specs::Map::ctrl_at, crate::specs::Map::write_target, crate::specs::Map::read_target, crate::specs::Map::wire_target, crate::specs::Map::target_of))]
+
 ghost use Rattle.std.specs.Prelude.{◌≡◌};
 ghost use Rattle.steps.specs.Map.{channel_at, ctrl_at, write_target, read_target, wire_target, target_of};
 ghost use Rattle.steps.specs.Facts.{InPart};
@@ -6,7 +8,7 @@ ghost use Rattle.steps.specs.Facts.{InPart};
 use rules::{Device, Edge, Event};
 
 // A step of a single channel: a write of a byte at an address, a read at an address, or what its wires did.
-#[derive(Clone, Copy)]
+#[derive(Clone, Copy, PartialEq, Eq)]
 pub enum Op {
     Write(u8, u8),
     Read(u8),
@@ -14,7 +16,7 @@ pub enum Op {
 }
 
 // A step of the part: the processor writes a byte at an address or reads one, a channel's wires did something, an edge of the trigger, the hardware reset, which chooses the part.
-#[derive(Clone, Copy)]
+#[derive(Clone, Copy, PartialEq, Eq)]
 pub enum Step {
     Write(u8, u8),
     Read(u8),
@@ -24,7 +26,7 @@ pub enum Step {
 }
 
 // A register of the whole part, at F0h to FFh.
-#[derive(Clone, Copy)]
+#[derive(Clone, Copy, PartialEq, Eq)]
 pub enum Ctrl {
     Ctrlstatus,
     Ctrlintmsk,
@@ -36,7 +38,7 @@ pub enum Ctrl {
 }
 
 // A step of the whole part: a write or a read of its registers, a trigger edge, the hardware reset, or nobody's (an event of a channel above 2).
-#[derive(Clone, Copy)]
+#[derive(Clone, Copy, PartialEq, Eq)]
 pub enum Wide {
     CtrlWrite(Ctrl, u8),
     CtrlRead(Ctrl),
@@ -46,7 +48,7 @@ pub enum Wide {
 }
 
 // Whom a step concerns: one channel, by what is asked of it and its number; or the whole part, or nobody.
-#[derive(Clone, Copy)]
+#[derive(Clone, Copy, PartialEq, Eq)]
 pub enum Target {
     One(Op, u8),
     All(Wide),
@@ -61,20 +63,14 @@ fn channel_at(a: u8) -> u8
 fn ctrl_at(a: u8) -> Ctrl
     ensures { result ≡ ctrl_at a }
 {
-    if a == 0xF0 {
-        Ctrl::Ctrlstatus
-    } else if a == 0xF1 {
-        Ctrl::Ctrlintmsk
-    } else if a < 0xF6 {
-        Ctrl::Reserved
-    } else if a == 0xF6 {
-        Ctrl::DeviceId
-    } else if a == 0xF7 {
-        Ctrl::Ctrlpreset
-    } else if a < 0xFF {
-        Ctrl::Nothing
-    } else {
-        Ctrl::Ctrlrdy
+    match a {
+        0xF0 => Ctrl::Ctrlstatus,
+        0xF1 => Ctrl::Ctrlintmsk,
+        ..=0xF5 => Ctrl::Reserved,
+        0xF6 => Ctrl::DeviceId,
+        0xF7 => Ctrl::Ctrlpreset,
+        ..=0xFE => Ctrl::Nothing,
+        _ => Ctrl::Ctrlrdy,
     }
 }
 

@@ -1,145 +1,149 @@
 // The calls, each on the part and the memory.
 ghost use Rattle.std.specs.Prelude.{◌<◌, ◌+◌, ◌*◌, ◌≤◌, length};
 
-use crate::poke::poke;
+use crate::poke::Field;
 use channel::Stepped;
 use part::{Part, PartStepped};
 use rules::{BUFFER, DONE, Device, MEMORY, UNREADABLE};
-use script::Line;
 use steps::PartAnswer;
 
 // The memory: the part's bytes and two more, so that more than it has can be lent.
 pub(crate) const BYTES: usize = 13058;
 
-// A call's header: what it is, its channel, the bytes that are lent or the field of a poke, the value of a poke, and the length of the buffer.
+// What a call does. `lent` is how many bytes of the memory, or of a single channel's part of it, are lent at most.
 #[derive(Clone, Copy)]
-pub(crate) struct Call {
-    pub(crate) what: u8,
-    pub(crate) channel: u8,
-    pub(crate) number: usize,
-    pub(crate) value: usize,
-    pub(crate) room: usize,
+pub(crate) enum Call {
+    Line,
+    New(Device),
+    Poke {
+        channel: u8,
+        field: Field,
+        value: u16,
+    },
+    Load {
+        channel: u8,
+        lent: usize,
+    },
+    Save {
+        channel: u8,
+        lent: usize,
+    },
+    LoadAlone {
+        channel: u8,
+        lent: usize,
+    },
+    SaveAlone {
+        channel: u8,
+        lent: usize,
+    },
+    // a number that is no call's, or no field's
+    Nothing,
 }
 
-pub(crate) fn least(n: usize, most: usize) -> usize
-    ensures { result ≤ most }
+impl From<[u8; 6]> for Call {
+    // What it is, its channel, the bytes that are lent or the field of a poke, and the value of a poke.
+    fn from([what, channel, low, high, value_low, value_high]: [u8; 6]) -> Self {
+        let number = u16::from_le_bytes([low, high]);
+        let value = u16::from_le_bytes([value_low, value_high]);
+        let lent = number as usize;
+        match what {
+            0 => Call::Line,
+            1 => Call::New(if channel == 1 {
+                Device::Pcu9669
+            } else {
+                Device::Pca9663
+            }),
+            2 => match Field::try_from(number) {
+                Ok(field) => Call::Poke {
+                    channel,
+                    field,
+                    value,
+                },
+                Err(_) => Call::Nothing,
+            },
+            3 => Call::Load { channel, lent },
+            4 => Call::Save { channel, lent },
+            5 => Call::LoadAlone { channel, lent },
+            6 => Call::SaveAlone { channel, lent },
+            _ => Call::Nothing,
+        }
+    }
+}
+
+fn run_line(part: Part, mem: &mut [u8], text: &[u8]) -> PartStepped
+    requires { 13056 ≤ length mem.old }
 {
-    if n < most { n } else { most }
+    match script::read_line(text) {
+        Some(step) => part.step(&mut mem[..MEMORY], step),
+        None => part.answer(UNREADABLE),
+    }
 }
 
-// The channel of a poke, which is below 3, or of a call of a single channel.
+// ---- calls of a single channel, and pokes
+
 fn place(channel: u8) -> usize
     ensures { result < 3 }
 {
-    (channel % 3) as usize
+    channel as usize % 3
 }
-
-// The part with an answer's number and nothing else.
-fn only(p: Part, number: u8) -> PartStepped {
-    PartStepped {
-        part: p,
-        answer: PartAnswer {
-            number,
-            value: 0,
-            actions: steps::no_acts(),
-        },
-    }
-}
-
-// ---- a line, a new part
-
-fn run_line(p: Part, mem: &mut [u8], text: &[u8]) -> PartStepped
-    requires { 13056 ≤ length mem.old }
-{
-    let l = script::read_line(text);
-    match l {
-        Line::Readable(s) => p.step(&mut mem[0..MEMORY], s),
-        Line::Unreadable => only(p, UNREADABLE),
-    }
-}
-
-fn device_of(n: u8) -> Device {
-    match n {
-        1 => Device::Pcu9669,
-        _ => Device::Pca9663,
-    }
-}
-
-// The part as a reset leaves it, and the whole memory zero.
-fn renew(n: u8, mem: &mut [u8; BYTES]) -> PartStepped {
-    *mem = [0u8; BYTES];
-    only(Part::new(device_of(n)), DONE)
-}
-
-// ---- files, of the part
-
-fn load(p: Part, mem: &mut [u8], k: usize, channel: u8, file: &[u8]) -> PartStepped
-    requires { k ≤ length mem.old }
-{
-    files::load_into(p, &mut mem[0..k], channel, file)
-}
-
-fn save(p: Part, mem: &[u8], k: usize, channel: u8, out: &mut [u8]) -> PartStepped
-    requires { k ≤ length mem.now }
-{
-    files::save_from(p, &mem[0..k], channel, out)
-}
-
-// ---- files, of a single channel
 
 // The part with the record that a channel's call handed back.
-fn put_back(p: Part, i: usize, r: Stepped) -> PartStepped
+fn put_back(mut part: Part, i: usize, r: Stepped) -> PartStepped
     requires { i < 3 }
 {
-    let mut m = p;
-    let c = r.channel;
-    m.channels[i] = c;
-    let a = r.answer;
-    let action = a.action;
+    part.channels[i] = r.channel;
+    let answer = r.answer;
     PartStepped {
-        part: m,
+        part,
         answer: PartAnswer {
-            number: a.number,
-            value: a.value,
-            actions: steps::act_at(i as u8, action),
+            number: answer.number,
+            value: answer.value,
+            actions: steps::act_at(i as u8, answer.action),
         },
     }
-}
-
-fn load_alone(p: Part, mem: &mut [u8], i: usize, k: usize, file: &[u8]) -> PartStepped
-    requires { (i < 3) × (4352 * i + k ≤ length mem.old) }
-{
-    let from = BUFFER * i;
-    let end = from + k;
-    let cs = p.channels;
-    put_back(p, i, files::load(cs[i], &mut mem[from..end], file))
-}
-
-fn save_alone(p: Part, mem: &[u8], i: usize, k: usize, out: &mut [u8]) -> PartStepped
-    requires { (i < 3) × (4352 * i + k ≤ length mem.now) }
-{
-    let from = BUFFER * i;
-    let end = from + k;
-    let cs = p.channels;
-    put_back(p, i, files::save(cs[i], &mem[from..end], out))
 }
 
 // ---- any call
 
-// A number that is no call's does nothing.
-pub(crate) fn perform(c: Call, p: Part, buf: &mut [u8], mem: &mut [u8; BYTES]) -> PartStepped {
-    let i = place(c.channel);
-    let k = least(c.number, BYTES);
-    let own = least(c.number, BUFFER + 2);
-    let what = c.what;
-    match what {
-        0 => run_line(p, mem, buf),
-        1 => renew(c.channel, mem),
-        2 => only(poke(p, i, c.number, c.value), DONE),
-        3 => load(p, mem, k, c.channel, buf),
-        4 => save(p, mem, k, c.channel, buf),
-        5 => load_alone(p, mem, i, own, buf),
-        6 => save_alone(p, mem, i, own, buf),
-        _ => only(p, DONE),
+impl Call {
+    pub(crate) fn perform(
+        self,
+        mut part: Part,
+        buf: &mut [u8],
+        mem: &mut [u8; BYTES],
+    ) -> PartStepped {
+        match self {
+            Call::Line => run_line(part, mem, buf),
+            // the part as a reset leaves it, and the whole memory zero
+            Call::New(device) => {
+                mem.fill(0);
+                Part::new(device).answer(DONE)
+            }
+            Call::Poke {
+                channel,
+                field,
+                value,
+            } => {
+                field.poke(&mut part, place(channel), value);
+                part.answer(DONE)
+            }
+            Call::Load { channel, lent } => {
+                files::load_into(part, &mut mem[..lent.min(BYTES)], channel, buf)
+            }
+            Call::Save { channel, lent } => {
+                files::save_from(part, &mem[..lent.min(BYTES)], channel, buf)
+            }
+            Call::LoadAlone { channel, lent } => {
+                let i = place(channel);
+                let own = &mut mem[BUFFER * i..][..lent.min(BUFFER + 2)];
+                put_back(part, i, files::load(part.channels[i], own, buf))
+            }
+            Call::SaveAlone { channel, lent } => {
+                let i = place(channel);
+                let own = &mem[BUFFER * i..][..lent.min(BUFFER + 2)];
+                put_back(part, i, files::save(part.channels[i], own, buf))
+            }
+            Call::Nothing => part.answer(DONE),
+        }
     }
 }

@@ -1,82 +1,80 @@
 // One field of the record set, in range or not.
 ghost use Rattle.std.specs.Prelude.{◌<◌};
 
-use channel::Channel;
-use head::Head;
 use part::Part;
-use rules::{Kind, Ptrs, Straps};
+use rules::Kind;
 
-fn byte(n: usize) -> u8 {
-    (n % 256) as u8
+// What a poke sets.
+#[derive(Clone, Copy)]
+pub(crate) enum Field {
+    SlatablePointer,
+    TranconfigPointer,
+    DataPointer,
+    BytecountPointer,
+    Count,
+    Transel,
+    Intmsk,
+    Ctrlintmsk,
+    Ended,
+    Key,
+    PartKey,
+    Be,
+    Ufm,
+    Sto,
 }
 
-fn kind_of(v: usize) -> Kind {
-    match v {
-        1 => Kind::Ufm,
-        _ => Kind::Fm,
+// A number that is no field's.
+#[derive(Clone, Copy)]
+pub(crate) struct NoField;
+
+impl TryFrom<u16> for Field {
+    type Error = NoField;
+
+    fn try_from(number: u16) -> Result<Self, NoField> {
+        Ok(match number {
+            0 => Field::SlatablePointer,
+            1 => Field::TranconfigPointer,
+            2 => Field::DataPointer,
+            3 => Field::BytecountPointer,
+            4 => Field::Count,
+            5 => Field::Transel,
+            6 => Field::Intmsk,
+            7 => Field::Ctrlintmsk,
+            8 => Field::Ended,
+            9 => Field::Key,
+            10 => Field::PartKey,
+            11 => Field::Be,
+            12 => Field::Ufm,
+            13 => Field::Sto,
+            _ => return Err(NoField),
+        })
     }
 }
 
-fn poke_ptrs(p: Ptrs, field: usize, v: usize) -> Ptrs {
-    let mut m = p;
-    match field {
-        0 => m.sla = v,
-        1 => m.conf = v,
-        2 => m.buf = v,
-        3 => m.count = v,
-        _ => (),
-    }
-    m
-}
-
-fn poke_head(h: Head, field: usize, v: usize) -> Head {
-    let mut m = h;
-    let b = byte(v);
-    let yes = v == 1;
-    match field {
-        5 => m.regs.transel = b,
-        6 => m.regs.intmsk = b,
-        8 => m.walk.ended = b,
-        9 => m.key = yes,
-        12 => {
-            let straps = Straps { kind: kind_of(v) };
-            m.straps = straps;
+impl Field {
+    // The field set of the part, or of its channel i.
+    pub(crate) fn poke(self, part: &mut Part, i: usize, value: u16)
+        requires { i < 3 }
+    {
+        let place = value as usize;
+        let byte = (value % 256) as u8;
+        let yes = value == 1;
+        let channel = &mut part.channels[i];
+        match self {
+            Field::SlatablePointer => channel.head.ptrs.sla = place,
+            Field::TranconfigPointer => channel.head.ptrs.conf = place,
+            Field::DataPointer => channel.head.ptrs.buf = place,
+            Field::BytecountPointer => channel.head.ptrs.count = place,
+            Field::Count => channel.tranconfig[0] = byte,
+            Field::Transel => channel.head.regs.transel = byte,
+            Field::Intmsk => channel.head.regs.intmsk = byte,
+            Field::Ctrlintmsk => part.mask = byte,
+            Field::Ended => channel.head.walk.ended = byte,
+            Field::Key => channel.head.key = yes,
+            Field::PartKey => part.key = yes,
+            Field::Be => part.be = yes,
+            Field::Ufm => channel.head.straps.kind = if yes { Kind::Ufm } else { Kind::Fm },
+            Field::Sto => channel.head.walk.sto = yes,
         }
-        13 => m.walk.sto = yes,
-        _ => {
-            let ptrs = poke_ptrs(h.ptrs, field, v);
-            m.ptrs = ptrs;
-        }
     }
-    m
-}
-
-fn poke_channel(c: Channel, field: usize, v: usize) -> Channel {
-    let mut m = c;
-    if field == 4 {
-        m.tranconfig[0] = byte(v);
-        return m;
-    }
-    let h = poke_head(c.head, field, v);
-    m.head = h;
-    m
-}
-
-pub(crate) fn poke(p: Part, i: usize, field: usize, v: usize) -> Part
-    requires { i < 3 }
-{
-    let mut m = p;
-    let b = byte(v);
-    let yes = v == 1;
-    match field {
-        7 => m.mask = b,
-        10 => m.key = yes,
-        11 => m.be = yes,
-        _ => {
-            let old = p.channels[i];
-            let c = poke_channel(old, field, v);
-            m.channels[i] = c;
-        }
-    }
-    m
 }

@@ -1,17 +1,18 @@
 -- Facts that functions hand to each other, beside what they return. Nobody has to believe them: each is proved where it is promised.
-use Rattle.std.specs.Prelude.{ℕ, List, ◌≡◌, ltb}
+use Rattle.std.specs.Prelude.{ℕ, List, Result, ◌≡◌, ltb}
 use Rattle.laws.specs.Pick.{when◌then◌else◌}
-use Rattle.rules.specs.Numbers.{done, nowhere, out_of_range}
-use Rattle.channel.specs.declared.state.Stepped.{Stepped}
+use Rattle.rules.specs.declared.numbers.Refusal.{Refusal}
+use Rattle.rules.specs.Numbers.{done, nowhere, out_of_range, number_of}
 use Rattle.part.specs.declared.state.Part.{Part}
 use Rattle.part.specs.Step.{accepts}
-use Rattle.works.specs.Work.{Own, Work}
+use Rattle.works.specs.Work.{Own}
+use Rattle.works.specs.Idle.{Deed, deed_number, deed_after, deed_out}
 
--- what a work makes of a channel that no. 9 does not refuse: the record and its answer, and the bytes
-pub record Took (w : Work) (o : Own) (r : Stepped) (m : List ℕ) : Type 0 where
-  pub channel : r.channel ≡ (w.after o).channel
-  pub answer : r.answer ≡ (w.gives o).answer
-  pub bytes : m ≡ (w.after o).bytes
+-- a deed done on a channel that no. 9 does not refuse, or refused: the number, what is then the channel's own, and what is left in the buffer
+pub record Did (d : Deed) (o : Own) (r : Result (Unit {0}) Refusal) (q : Own) (l : List ℕ) : Type 0 where
+  pub number : number_of r ≡ deed_number d o
+  pub own : q ≡ deed_after d o
+  pub out : l ≡ deed_out d o
 
 -- the number that refuses a call on the part before the work, as `work_done` and `work_reply` have it; or 0
 unfoldable pub call_number : Part → ℕ → ℕ → ℕ

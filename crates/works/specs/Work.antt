@@ -7,10 +7,9 @@ use Rattle.steps.specs.declared.answer.PartAnswer.{PartAnswer}
 use Rattle.head.specs.declared.state.Answer.{Answer}
 use Rattle.channel.specs.declared.state.Channel.{Channel}
 use Rattle.channel.specs.Facts.{Accepted}
-use Rattle.heads.specs.Heads.{answer_at}
 use Rattle.part.specs.declared.state.Part.{Part}
 use Rattle.part.specs.State.{chan, window, put_window, refused_part, keyless, forgotten}
-use Rattle.part.specs.Step.{one_after, accepts}
+use Rattle.part.specs.Step.{one_after, answer_at, accepts}
 use Rattle.works.specs.State.{State}
 
 -- ---- of one channel
@@ -59,7 +58,7 @@ left_for p c writes = when writes then forgotten p c else p
 -- the state with o as channel c's own, after an answer of this number
 abbrev pub own_put : State → ℕ → Own → ℕ → Bool → State
 own_put s c o number writes = record {
-  part = let p = left_for s.part c writes in one_after p c o.channel (record { be = be_after p.be number; mask = p.mask; key = p.key });
+  part = let p = left_for s.part c writes in one_after p c o.channel (be_after p.be number);
   memory = put_window c o.bytes s.memory;
 }
 

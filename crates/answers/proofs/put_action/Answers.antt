@@ -8,6 +8,6 @@ pub returns-then-busy : goal.returns-then-busy
 unfolding action_of
 returns-then-busy c = (search puts, search rules)
 
-pub returns : goal.returns
+pub returns-else-busy : goal.returns-else-busy
 unfolding action_of
-returns c = (search puts, search rules)
+returns-else-busy c = (search puts, search rules)

@@ -6,5 +6,5 @@ use Rattle.answers.proofs.put_if.Goals as goal
 pub returns-then-wanted : goal.returns-then-wanted
 returns-then-wanted c = (search puts, search rules)
 
-pub returns : goal.returns
-returns c = (search puts, search rules)
+pub returns-else-wanted : goal.returns-else-wanted
+returns-else-wanted c = (search puts, search rules)

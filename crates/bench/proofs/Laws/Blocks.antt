@@ -24,7 +24,7 @@ use Rattle.runner.proofs.Laws.Lines.{kept_few, kept_first, put_before, put_stays
 use Rattle.runner.proofs.Laws.Feeding.{put-length}
 use Rattle.bench.specs.declared.Seat.{Seat}
 use Rattle.bench.specs.declared.Bench.{Bench}
-use Rattle.bench.specs.declared.How.TheVariants.{On}
+use Rattle.bench.specs.declared.Next.TheVariants.{On}
 use Rattle.bench.specs.Talk.{sitting_of, bare_of, silenced, Sized, Ready, Heard, Closed, Written, Turned}
 use Rattle.bench.specs.Talk.Turned.{read}
 

@@ -1,8 +1,8 @@
 -- The pieces that the program reads and hands to `write` are a script and its output.
-use Rattle.std.specs.Prelude.{ℕ, ◌<◌, Bool, true, false, List, [], ◌++◌, ◌≡◌, refl}
-use Rattle.std.proofs.Common.{append-nil, append_assoc, sym, ◌∙◌, ap, arith, ltb-true}
+use Rattle.std.specs.Prelude.{ℕ, ◌<◌, true, List, [], ◌++◌, ◌≡◌, refl, Result, Ok, Err}
+use Rattle.std.proofs.Common.{append-nil, append_assoc, sym, ◌∙◌, ap, ltb-true}
 use Rattle.std.proofs.Math.Seq.{take-nil}
-use Rattle.laws.specs.Cases.{false_not_true}
+use Rattle.std.proofs.lemmas.Bool.{false≢true}
 use Rattle.script.specs.Grammar.{line_room}
 use Rattle.answers.specs.Answer.{header}
 use Rattle.runner.specs.Text.{Sitting, fed, said, last_said, opening, output_of, ended_lines, rest_of, after_all, replies_to}
@@ -10,41 +10,24 @@ use Rattle.runner.specs.Feeding.{shortened}
 use Rattle.runner.proofs.Laws.Text.{fed-split, said-split, output_said}
 use Rattle.runner.proofs.Laws.Kept.{shortened-said, shortened-fed, shortened_last}
 use Rattle.bench.specs.declared.Seat.{Seat}
-use Rattle.bench.specs.declared.How.{How}
-use Rattle.bench.specs.declared.How.TheVariants.{On, Ended, Unread, Unwritten}
+use Rattle.bench.specs.declared.Next.{Next}
+use Rattle.bench.specs.declared.Next.TheVariants.{On, Ended}
+use Rattle.bench.specs.declared.Failed.{Failed}
+use Rattle.bench.specs.declared.Failed.TheVariants.{Unread, Unwritten}
 use Rattle.bench.specs.Talk.{sitting_of, Written, going_on, Talk}
 use Rattle.bench.specs.Talk.Written.{taken, lost}
 use Rattle.bench.specs.Talk.Turned.{read, ended, unread}
 use Rattle.bench.specs.Talk.Talk.{begun, more}
 
--- ---- the four ways to go on are four
-abbrev is_on : How → Bool
-is_on On = true
-is_on Ended = false
-is_on Unread = false
-is_on Unwritten = false
+pub going_on_lem : (turns : ℕ) (how : Result Next Failed) → going_on turns how ≡ true → (how ≡ Ok On) × (0 < turns)
+going_on_lem turns (Ok On) e = (refl, ltb-true 0 turns e)
+going_on_lem turns (Ok Ended) e = absurd (false≢true e)
+going_on_lem turns (Err x) e = absurd (false≢true e)
 
-abbrev is_ended : How → Bool
-is_ended On = false
-is_ended Ended = true
-is_ended Unread = false
-is_ended Unwritten = false
-
-abbrev is_unread : How → Bool
-is_unread On = false
-is_unread Ended = false
-is_unread Unread = true
-is_unread Unwritten = false
-
--- no way to go on has two names that a test tells apart
-apart : {A : Type 0} (f : How → Bool) (how a b : How) → f a ≡ false → f b ≡ true → how ≡ a → how ≡ b → A
-apart f how a b x y d e = absurd (omega (arith, false_not_true (sym x ∙ ap f (sym d ∙ e) ∙ y)))
-
-pub going_on_lem : (turns : ℕ) (how : How) → going_on turns how ≡ true → (how ≡ On) × (0 < turns)
-going_on_lem turns On e = (refl, ltb-true 0 turns e)
-going_on_lem turns Ended e = absurd (omega (arith, false_not_true e))
-going_on_lem turns Unread e = absurd (omega (arith, false_not_true e))
-going_on_lem turns Unwritten e = absurd (omega (arith, false_not_true e))
+-- a program that goes on as meant, unless a write failed, does not go on otherwise
+no_other : {A : Type 0} (next : Next) (how want : Result Next Failed) → (Ok next ≡ want → ⊥) → (Err Unwritten ≡ want → ⊥) → Written next how → how ≡ want → A
+no_other next how want f h (taken x) g = absurd (f (sym x ∙ g))
+no_other next how want f h (lost x) g = absurd (h (sym x ∙ g))
 
 -- ---- a script that goes on
 abbrev Upto : Seat → List ℕ → List ℕ → List ℕ → Type 0
@@ -67,22 +50,18 @@ upto_more s m input output r n came text w e h = (
       ∙ ap (λ (x : List ℕ). header ++ x) (sym (said-split opening input came)),
 )
 
-talk_on : {s : Seat} {how : How} {m input output : List ℕ} → Talk s how m input output → how ≡ On → Upto s m input output
+talk_on : {s : Seat} {how : Result Next Failed} {m input output : List ℕ} → Talk s how m input output → how ≡ Ok On → Upto s m input output
 talk_on (begun b m text w) g = upto_none b.seat m text w.stands w.said
 talk_on (more s how m i o b n came text t go (read w e h)) g = upto_more s m i o b.seat n came text (talk_on t go) e h
-talk_on (more s how m i o b n came text t go (ended (taken w) e h)) g = apart is_on b.how Ended On refl refl w g
-talk_on (more s how m i o b n came text t go (ended (lost w) e h)) g = apart is_on b.how Unwritten On refl refl w g
-talk_on (more s how m i o b n came text t go (unread w e h)) g = apart is_on b.how Unread On refl refl w g
-
-not_written : {A : Type 0} (f : How → Bool) (how next want : How) → f next ≡ false → f Unwritten ≡ false → f want ≡ true → Written next how → how ≡ want → A
-not_written f how next want a b c (taken x) g = apart f how next want a c x g
-not_written f how next want a b c (lost x) g = apart f how Unwritten want b c x g
+talk_on (more s how m i o b n came text t go (ended (taken w) e h)) g = absurd (let x = sym w ∙ g in cc)
+talk_on (more s how m i o b n came text t go (ended (lost w) e h)) g = absurd (let x = sym w ∙ g in cc)
+talk_on (more s how m i o b n came text t go (unread w e h)) g = absurd (let x = sym w ∙ g in cc)
 
 -- ---- THE OUTPUT: once the input has ended, what was handed to `write` is the output of what was read
-pub talk_output : {s : Seat} {how : How} {m input output : List ℕ} → Talk s how m input output → how ≡ Ended → output ≡ output_of input
-talk_output (begun b m text w) g = not_written is_ended b.how On Ended refl refl refl w.written g
-talk_output (more s how m i o b n came text t go (read w e h)) g = not_written is_ended b.how On Ended refl refl refl w g
-talk_output (more s how m i o b n came text t go (unread w e h)) g = apart is_ended b.how Unread Ended refl refl w g
+pub talk_output : {s : Seat} {how : Result Next Failed} {m input output : List ℕ} → Talk s how m input output → how ≡ Ok Ended → output ≡ output_of input
+talk_output (begun b m text w) g = no_other On b.how (Ok Ended) (λ x. cc) (λ x. cc) w.written g
+talk_output (more s how m i o b n came text t go (read w e h)) g = no_other On b.how (Ok Ended) (λ x. cc) (λ x. cc) w g
+talk_output (more s how m i o b n came text t go (unread w e h)) g = absurd (let x = sym w ∙ g in cc)
 talk_output (more s how m i o b n came text t go (ended w e h)) g =
     let u = talk_on t go in
     ap (λ (x : List ℕ). x ++ text) u.1
@@ -92,10 +71,10 @@ talk_output (more s how m i o b n came text t go (ended w e h)) g =
     ∙ ap output_of (sym (append-nil i) ∙ ap (λ (x : List ℕ). i ++ x) (sym e))
 
 -- where a read failed, it is as much of the output as belongs to the lines that were read
-pub talk_unread : {s : Seat} {how : How} {m input output : List ℕ} → Talk s how m input output → how ≡ Unread → output ≡ header ++ said opening input
-talk_unread (begun b m text w) g = not_written is_unread b.how On Unread refl refl refl w.written g
-talk_unread (more s how m i o b n came text t go (read w e h)) g = not_written is_unread b.how On Unread refl refl refl w g
-talk_unread (more s how m i o b n came text t go (ended w e h)) g = not_written is_unread b.how Ended Unread refl refl refl w g
+pub talk_unread : {s : Seat} {how : Result Next Failed} {m input output : List ℕ} → Talk s how m input output → how ≡ Err Unread → output ≡ header ++ said opening input
+talk_unread (begun b m text w) g = no_other On b.how (Err Unread) (λ x. cc) (λ x. cc) w.written g
+talk_unread (more s how m i o b n came text t go (read w e h)) g = no_other On b.how (Err Unread) (λ x. cc) (λ x. cc) w g
+talk_unread (more s how m i o b n came text t go (ended w e h)) g = no_other Ended b.how (Err Unread) (λ x. cc) (λ x. cc) w g
 talk_unread (more s how m i o b n came text t go (unread w e h)) g =
     ap (λ (x : List ℕ). o ++ x) h ∙ append-nil o ∙ (talk_on t go).1
     ∙ ap (λ (x : List ℕ). header ++ said opening x) (sym (append-nil i) ∙ ap (λ (x : List ℕ). i ++ x) (sym e))

@@ -1,20 +1,7 @@
 -- `bench::answer_from` meets its contract.
-use Rattle.std.proofs.Common.{rules}
 use Rattle.bench.proofs.Laws.Blocks.{from-heard}
 use Rattle.script.specs.Grammar.{line_room}
 use Rattle.bench.proofs.answer_from.Goals as goal
-
-pub slice_bounds-answer_block-count : goal.slice_bounds-answer_block-count
-unfolding line_room
-slice_bounds-answer_block-count c = search rules
-
-pub slice_bounds-answer_block-start : goal.slice_bounds-answer_block-start
-unfolding line_room
-slice_bounds-answer_block-start c = search rules
-
-pub slice_bounds-answer_block-end : goal.slice_bounds-answer_block-end
-unfolding line_room
-slice_bounds-answer_block-end c = search rules
 
 pub returns-clause-heard : goal.returns-clause-heard
 unfolding line_room

@@ -4,9 +4,9 @@ use Rattle.bench.specs.Talk.{block_size, Ready, Talks}
 use Rattle.answers.specs.Answer.{answer_room}
 use Rattle.bench.proofs.main.Given as goal
 
-abbrev pub invariant-loop-how : goal.invariant-loop-how
-invariant-loop-how l =
-    (length l.block ≡ block_size) × (length l.out ≡ answer_room * block_size) × Ready l.seat l.mem × Talks l.seat l.how l.mem
+abbrev pub invariant-loop-safe : goal.invariant-loop-safe
+invariant-loop-safe l =
+    (length l.block ≡ block_size) × (length l.out ≡ answer_room * block_size) × Ready l.b.seat l.mem × Talks l.b.seat l.b.how l.mem
 
-abbrev pub decreases-loop-how : goal.decreases-loop-how
-decreases-loop-how l = l.turns
+abbrev pub decreases-loop-safe : goal.decreases-loop-safe
+decreases-loop-safe l = l.turns

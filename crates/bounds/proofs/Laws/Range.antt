@@ -1,9 +1,11 @@
 -- What the range's clauses say.
-use Rattle.std.specs.Prelude.{Bool, true, false, not, List, ◌≡◌, refl, ℕ, zero, suc, ◌+◌, ◌-◌, ◌/◌, ◌%◌, ◌<◌, ◌≤◌, get_or, set, eqb}
-use Rattle.std.proofs.Common.{sym, ◌∙◌, ap, ⊎_elim, arith, eq-or-lt_of_le, rules, get_or-set_other}
-use borrow.Author.Tests.{eq-eqb, ne_eqb, lt-ltb, le-ltb, ltb-true, ltb-false, leb-true, eqb-true, not-true}
+use Rattle.std.specs.Prelude.{Bool, true, false, not, List, ◌≡◌, refl, ℕ, zero, suc, ◌+◌, ◌-◌, ◌/◌, ◌%◌, ◌<◌, ◌≤◌, ◌&&◌, get_or, set, drop, length, eqb}
+use Rattle.std.proofs.Common.{sym, ◌∙◌, ap, ⊎_elim, arith, eq-or-lt_of_le, rules, add-one, drop-cons, get_or-set_other}
+use Rattle.std.specs.List.{list_all}
+use Rattle.std.proofs.Math.ListN.{drop_of_length-le}
+use borrow.Author.Tests.{eq-eqb, lt-ltb, le-ltb, ltb-true, ltb-false, leb-true, eqb-true, not-true}
 use Rattle.laws.specs.Pick.{when◌then◌else◌}
-use Rattle.laws.specs.Cases.{past, both, on, with, left-more, left_none, false_not_true}
+use Rattle.laws.specs.Cases.{past, both, on, with, false_not_true}
 use Rattle.rules.specs.declared.parts.Device.{Device}
 use Rattle.rules.specs.declared.parts.Device.TheVariants.{Pca9663, Pcu9669}
 use Rattle.rules.specs.declared.state.Phase.{Phase}
@@ -68,20 +70,20 @@ standing_below kind n sla lens r e t k =
 
 pub ruleset ranges = (standing_below, rules)
 
--- ---- clear_after: the loop's three ways
-pub clear_end : (l : List ℕ) (i : ℕ) (r : Bool) → r ≡ clear_after l i → 64 ≤ i → true ≡ r
-unfolding clear_from
-clear_end l i r e h = sym (rw (left_none 64 i h) at e)
-
-pub clear_not : (l : List ℕ) (i : ℕ) (r : Bool) → r ≡ clear_after l i → i < 64 → (get_or l i 0 ≡ 0 → ⊥) → false ≡ r
+-- ---- clear_after: each entry behind i is 0
+clear_from_all : (l : List ℕ) (i left : ℕ) → left ≡ length l - i → list_all (λ n. eqb n 0) (drop i l) ≡ clear_from l i left
 unfolding clear_from when◌then◌else◌
-clear_not l i r e h n = sym (rw (left-more 64 i h, ne_eqb (get_or l i 0) 0 n) at e)
+clear_from_all l i zero e = let h : length l ≤ i = omega (arith, e) in rw (drop_of_length-le l h)
+clear_from_all l i (suc left) e =
+    let h : i < length l = omega (arith, e) in
+    rw (drop-cons l i 0 h, add-one i) (go (eqb (get_or l i 0) 0) (clear_from_all l (suc i) left (omega (arith, e))))
+  where
+    go : (b : Bool) {x y : Bool} → x ≡ y → (b && x) ≡ (when b then y else false)
+    go true h = h
+    go false h = refl
 
-pub clear_more : (l : List ℕ) (i : ℕ) (r : Bool) → r ≡ clear_after l i → i < 64 → get_or l i 0 ≡ 0 → r ≡ clear_after l (i + 1)
-unfolding clear_from when◌then◌else◌
-clear_more l i r e h n = rw (left-more 64 i h, eq-eqb (get_or l i 0) 0 n) at e
-
-pub ruleset clears = (clear_end, clear_not, clear_more, rules)
+pub clear_all : (l : List ℕ) (i : ℕ) → length l ≡ 64 → list_all (λ n. eqb n 0) (drop i l) ≡ clear_after l i
+clear_all l i e = clear_from_all l i (64 - i) (omega (arith, e))
 
 -- ---- clear_after, entry by entry
 clear_from_lem : (l : List ℕ) (i left k : ℕ) → clear_from l i left ≡ true → i ≤ k → k < i + left → get_or l k 0 ≡ 0

@@ -1,7 +1,8 @@
 -- What an access that is not refused may rely on, and an access from its parts.
+use Rattle.std.specs.Prelude.{length, Option, Some, Result, Ok, Err}
 use mathlib.Core.List.{List}
 use mathlib.Core.Bool.{Bool, true, false}
-use mathlib.Core.Path.{◌≡◌, sym, ◌∙◌}
+use mathlib.Core.Path.{◌≡◌, refl, sym, ◌∙◌}
 use Prim.Native.Nat.{ℕ, ◌<◌, ◌≤◌}
 use native.Mathlib.Omega.{arith}
 use borrow.Author.Rules.{rules}
@@ -10,9 +11,9 @@ use Rattle.laws.specs.Cases.{pick_true, pick-false}
 use Rattle.rules.specs.declared.registers.Register.{Register}
 use Rattle.rules.specs.declared.state.Ptrs.{Ptrs}
 use Rattle.rules.specs.declared.registers.Register.TheVariants.{Status, Slatable, Tranconfig, Data, Transel, Bytecount, Setting}
-use Rattle.rules.specs.declared.registers.Place.{Place}
-use Rattle.rules.specs.declared.registers.Place.TheVariants.{Here}
-use Rattle.rules.specs.Numbers.{buffer_size}
+use Rattle.rules.specs.declared.numbers.Refusal.{Refusal}
+use Rattle.rules.specs.Numbers.{buffer_size, refusal_number, number_of}
+use Rattle.rules.proofs.Laws.Numbers.{refusal_positive}
 use Rattle.rules.specs.Access.{preset_of, key_after, resets_of}
 use Rattle.rules.proofs.Laws.Access.{not_past, spot_open, sla_open, conf_open, data_open, sel_open}
 use Rattle.rules.specs.Facts.{Known}
@@ -43,9 +44,9 @@ module _ (p : Ptrs) (lens : List ℕ) (reg : Register) (e : read_refusal p lens 
   unfolding read_refusal
   read_conf q = let h = not_past 64 p.conf (rw q at e) in omega arith
 
-  pub read_data : (n : ℕ) → reg ≡ Data → n ≡ buffer_size → p.buf < n
+  pub read_data : (m : List ℕ) → reg ≡ Data → length m ≡ buffer_size → p.buf < length m
   unfolding read_refusal
-  read_data n q l = let h = spot_open lens p.buf (rw q at e) in omega arith
+  read_data m q l = let h = spot_open lens p.buf (rw q at e) in omega arith
 
   pub read_count : reg ≡ Bytecount → p.count < 64
   unfolding read_refusal
@@ -63,9 +64,9 @@ module _ (h : Head) (lens : List ℕ) (reg : Register) (v : ℕ) (e : refusal_of
   unfolding refusal_of
   write_conf q = let g = conf_open h.walk.phase h.ptrs.conf v (rw q at e) in omega arith
 
-  pub write_data : (n : ℕ) → reg ≡ Data → n ≡ buffer_size → h.ptrs.buf < n
+  pub write_data : (m : List ℕ) → reg ≡ Data → length m ≡ buffer_size → h.ptrs.buf < length m
   unfolding refusal_of
-  write_data n q l = let g = data_open h.walk.phase lens h.ptrs.buf (rw q at e) in omega arith
+  write_data m q l = let g = data_open h.walk.phase lens h.ptrs.buf (rw q at e) in omega arith
 
   pub write_sel : reg ≡ Transel → v ≤ 63
   unfolding refusal_of
@@ -79,17 +80,21 @@ module _ (c : Channel) (m : List ℕ) (a : Accepted c m) where
   pub accepted_count : count_of c ≤ 64
   accepted_count = range_count c a.ranged
 
--- ---- a step, from its number and what follows
-pub guarded_no : (c : Channel) (m : List ℕ) (d x : Served) (n k : ℕ) → n ≡ k → (n ≡ 0 → ⊥) → x ≡ leaving m (on c (refused c.head n)) → x ≡ guarded k c m d
-unfolding guarded
-guarded_no c m d x n k e h p = rw (← e) (pick-false _ _ _ _ (ne_eqb n 0 h) p)
+pub ruleset writes = (write_sla, write_conf, write_data, write_sel, accepted_sel, accepted_count, rules)
 
-pub guarded-yes : (c : Channel) (m : List ℕ) (d x : Served) (n k : ℕ) → n ≡ k → n ≡ 0 → x ≡ d → x ≡ guarded k c m d
-unfolding guarded
-guarded-yes c m d x n k e h p = rw (← e) (pick_true _ _ _ _ (eq-eqb n 0 h) p)
+-- ---- a step, from what refuses it and what follows
+module _ (c : Channel) (m : List ℕ) (d x : Served) (r : Result (Unit {0}) Refusal) (k : ℕ) (says : number_of r ≡ k) where
+  pub guarded_no : (e : Refusal) → r ≡ Err e → x ≡ leaving m (on c (refused c.head (refusal_number e))) → x ≡ guarded k c m d
+  unfolding guarded
+  guarded_no e q p = let n : refusal_number e ≡ k = rw q at says in let h = refusal_positive e in
+      rw (← n) (pick-false _ _ _ _ (ne_eqb _ 0 (λ z. omega (arith, h, z))) p)
+
+  pub guarded-yes : (t : Unit {0}) → r ≡ Ok t → x ≡ d → x ≡ guarded k c m d
+  unfolding guarded
+  guarded-yes t q p = rw (← says, q) (pick_true _ _ _ _ (eq-eqb 0 0 refl) p)
 
 -- ---- a write at a register of the channel, from whether it resets, its key and its number
-module _ (c : Channel) (m : List ℕ) (place : Place) (reg : Register) (v : ℕ) (p b : Bool) (here : place ≡ Here reg)
+module _ (c : Channel) (m : List ℕ) (place : Option Register) (reg : Register) (v : ℕ) (p b : Bool) (here : place ≡ Some reg)
     (ep : p ≡ preset_of reg) (eb : b ≡ resets_of p v c.head.key) (x : Served) where
   resets : resets_of (preset_of reg) v c.head.key ≡ b
   resets = rw (← ep) (sym eb)
@@ -98,12 +103,12 @@ module _ (c : Channel) (m : List ℕ) (place : Place) (reg : Register) (v : ℕ)
   unfolding write_at put_of
   write-reset t e = rw here (pick_true _ _ _ _ (resets ∙ t) e)
 
-  module _ (f : b ≡ false) (h : Head) (k : Bool) (eh : h ≡ with_key c.head k) (ek : k ≡ key_after p v)
-      (n : ℕ) (en : n ≡ refusal_of h c.tranconfig reg v) where
-    pub write-refused : (n ≡ 0 → ⊥) → x ≡ leaving m (on c (refused h n)) → x ≡ write_at c m place v
+  module _ (f : b ≡ false) (k : Bool) (ek : k ≡ key_after p v)
+      (r : Result (Unit {0}) Refusal) (en : number_of r ≡ refusal_of (with_key c.head k) c.tranconfig reg v) where
+    pub write-refused : (e : Refusal) → r ≡ Err e → x ≡ leaving m (on c (refused (with_key c.head k) (refusal_number e))) → x ≡ write_at c m place v
     unfolding write_at put_of write_of
-    write-refused z e = rw here (pick-false _ _ _ _ (resets ∙ f) (guarded_no _ m _ _ n _ (rw (eh, ek, ep) at en) z (rw (eh, ek, ep) at e)))
+    write-refused e q g = rw here (pick-false _ _ _ _ (resets ∙ f) (guarded_no _ m _ _ r _ (rw (ek, ep) at en) e q (rw (ek, ep) at g)))
 
-    pub write_done : n ≡ 0 → x ≡ written_by (with_head c h) m reg v → x ≡ write_at c m place v
+    pub write_done : (t : Unit {0}) → r ≡ Ok t → x ≡ written_by (with_head c (with_key c.head k)) m reg v → x ≡ write_at c m place v
     unfolding write_at put_of write_of
-    write_done z e = rw here (pick-false _ _ _ _ (resets ∙ f) (guarded-yes _ m _ _ n _ (rw (eh, ek, ep) at en) z (rw (eh, ek, ep) at e)))
+    write_done t q g = rw here (pick-false _ _ _ _ (resets ∙ f) (guarded-yes _ m _ _ r _ (rw (ek, ep) at en) t q (rw (ek, ep) at g)))

@@ -1,5 +1,5 @@
 -- No step leads out of range, and a step keeps the number of bytes.
-use Rattle.std.specs.Prelude.{Bool, true, false, ◌≡◌, ℕ, zero, suc, ◌+◌, ◌/◌, ◌%◌, ◌≤◌, eqb, ltb, length, get_or, set}
+use Rattle.std.specs.Prelude.{Bool, true, false, Option, Some, None, ◌≡◌, ℕ, zero, suc, ◌+◌, ◌/◌, ◌%◌, ◌≤◌, eqb, ltb, length, get_or, set}
 use mathlib.Core.List.{List, [], ◌∷◌}
 use Rattle.std.proofs.Math.Path.{refl, sym}
 use Rattle.std.proofs.Common.{◌∙◌, arith, eqb-true, eq-eqb, ltb-true, ltb-false, length-set}
@@ -14,8 +14,6 @@ use Rattle.rules.specs.declared.state.Walk.{Walk}
 use Rattle.rules.specs.declared.registers.Command.{Command}
 use Rattle.rules.specs.declared.registers.Register.{Register}
 use Rattle.rules.specs.declared.registers.Register.TheVariants.{Status, Control, Chstatus, Intmsk, Slatable, Tranconfig, Data, Transel, Tranofs, Bytecount, Setting, Preset}
-use Rattle.rules.specs.declared.registers.Place.{Place}
-use Rattle.rules.specs.declared.registers.Place.TheVariants.{Here, Elsewhere}
 use Rattle.rules.specs.Numbers.{buffer_size, done, out_of_range}
 use Rattle.rules.specs.Registers.{active_of, command_of, mask_kept, place_of}
 use Rattle.rules.specs.Tables.{start_of}
@@ -284,15 +282,15 @@ module _ (c : Channel) (m : List ℕ) (number : ℕ) (h : In c) (whole : length 
       pick_holds (Fine m) (resets_of (preset_of reg) v c.head.key) (λ _. (fresh_in c.head.straps, zeros-length ∙ sym whole))
       (λ _. guarded_in _ (keyed c reg v) m _ h (λ e. write_in (keyed c reg v) m reg v e h))
 
-  write_at_lem : (p : Place) (v : ℕ) → Fine m (write_at c m p v)
+  write_at_lem : (p : Option Register) (v : ℕ) → Fine m (write_at c m p v)
   unfolding write_at
-  write_at_lem (Here reg) v = put_in reg v
-  write_at_lem Elsewhere v = (h, refl)
+  write_at_lem (Some reg) v = put_in reg v
+  write_at_lem None v = (h, refl)
 
-  read_at_lem : (p : Place) → Fine m (read_at c m p)
+  read_at_lem : (p : Option Register) → Fine m (read_at c m p)
   unfolding read_at read_of
-  read_at_lem (Here reg) = guarded_in _ c m _ h (λ e. (read_in c m reg e h, refl))
-  read_at_lem Elsewhere = (h, refl)
+  read_at_lem (Some reg) = guarded_in _ c m _ h (λ e. (read_in c m reg e h, refl))
+  read_at_lem None = (h, refl)
 
   event_at_lem : (e : Event) → Fine m (event_at c m number e)
   unfolding event_at

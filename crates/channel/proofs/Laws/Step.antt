@@ -1,4 +1,5 @@
 -- What a step that is not refused by no. 9 may rely on.
+use Rattle.std.specs.Prelude.{Option, Some, Result, Ok}
 use mathlib.Core.Bool.{Bool, true}
 use mathlib.Core.List.{List}
 use mathlib.Core.Path.{◌≡◌, sym, ◌∙◌, ap}
@@ -9,14 +10,13 @@ use lib.Dec.{eqb}
 use lib.ListN.{length, get_or}
 use Rattle.laws.specs.Cases.{accepted, past, both}
 use Rattle.rules.specs.declared.registers.Register.{Register}
-use Rattle.rules.specs.declared.registers.Place.{Place}
-use Rattle.rules.specs.declared.registers.Place.TheVariants.{Here}
 use Rattle.rules.specs.declared.parts.Kind.{Kind}
 use Rattle.rules.specs.declared.state.Phase.{Phase}
 use Rattle.rules.specs.declared.state.Phase.TheVariants.{Sending, Receiving}
 use Rattle.rules.specs.declared.wires.Event.{Event}
 use Rattle.sequence.specs.declared.wires.Turn.{Turn}
-use Rattle.rules.specs.Numbers.{buffer_size, done, out_of_range}
+use Rattle.rules.specs.declared.numbers.Refusal.{Refusal}
+use Rattle.rules.specs.Numbers.{buffer_size, done, out_of_range, number_of}
 use Rattle.rules.specs.Tables.{reads_of}
 use Rattle.bounds.specs.Range.{counted_in, frame_at, frame_in}
 use Rattle.bounds.proofs.Laws.Range.{stands_of, frame-counted, stands_running}
@@ -35,10 +35,11 @@ use Rattle.channel.specs.Step.{range_number}
 use Rattle.channel.specs.Facts.{Accepted, Meets}
 use Rattle.channel.proofs.Laws.Range.{range_count, range_frame}
 
-pub accepts : (c : Channel) (m : List ℕ) (n : ℕ) → n ≡ range_number (length m) (in_range c) → n ≡ 0 → Accepted c m
+pub accepts : (c : Channel) (m : List ℕ) (r : Result (Unit {0}) Refusal) (t : Unit {0}) → number_of r ≡ range_number (length m) (in_range c) → r ≡ Ok t → Accepted c m
 unfolding range_number
-accepts c m n e z =
-    let a = accepted (eqb (length m) buffer_size) _ out_of_range (omega arith) (sym e ∙ z) in
+accepts c m r t e q =
+    let z = rw q at e in
+    let a = accepted (eqb (length m) buffer_size) _ out_of_range (omega arith) (sym z) in
     record { ranged = (accepted (in_range c) done out_of_range (omega arith) a.1).0; whole = eqb-true (length m) buffer_size a.0 }
 
 -- a head that is in range beside a count
@@ -55,8 +56,8 @@ keeps m s t e = rw e
 pub steps : (m : List ℕ) (s : Stepped) (x : Served) → leaving m s ≡ x → (s ≡ x.stepped) × (m ≡ x.bytes)
 steps m s x e = (ap (λ (y : Served). y.stepped) e, ap (λ (y : Served). y.bytes) e)
 
-pub known_here : (p : Place) (reg : Register) → KnownPlace p → p ≡ Here reg → Known reg
-known_here p reg h e = rw e at h
+pub known_some : (p : Option Register) (reg : Register) → KnownPlace p → p ≡ Some reg → Known reg
+known_some p reg h e = rw e at h
 
 -- ---- an event meets what the range says of its phase
 frame_running : (kind : Kind) (p : Phase) (n : ℕ) (sla lens counts : List ℕ) → get_or lens 0 0 ≤ 64 → frame_at kind p n sla lens counts ≡ true → Running lens n

@@ -1,5 +1,5 @@
 -- No step of a channel changes what the hardware reset chose of it; and a UFm channel to which nobody ever answered stays so.
-use Rattle.std.specs.Prelude.{Bool, List, [], ◌∷◌, ◌≡◌, ℕ, zero, suc, ◌+◌, ◌-◌, ◌<◌, eqb, ltb, set, replicate}
+use Rattle.std.specs.Prelude.{Bool, Option, Some, None, List, [], ◌∷◌, ◌≡◌, ℕ, zero, suc, ◌+◌, ◌-◌, ◌<◌, eqb, ltb, set, replicate}
 use Rattle.std.proofs.Math.Path.{refl}
 use Rattle.std.proofs.Common.{◌∙◌, ap, arith}
 use Rattle.laws.specs.Cases.{pick_holds}
@@ -11,8 +11,6 @@ use Rattle.rules.specs.declared.state.Phase.{Phase}
 use Rattle.rules.specs.declared.registers.Command.{Command}
 use Rattle.rules.specs.declared.registers.Register.{Register}
 use Rattle.rules.specs.declared.registers.Register.TheVariants.{Status, Control, Chstatus, Intmsk, Slatable, Tranconfig, Data, Transel, Tranofs, Bytecount, Setting, Preset}
-use Rattle.rules.specs.declared.registers.Place.{Place}
-use Rattle.rules.specs.declared.registers.Place.TheVariants.{Here, Elsewhere}
 use Rattle.rules.specs.Numbers.{done, done_status}
 use Rattle.rules.specs.Access.{preset_of, resets_of}
 use Rattle.rules.specs.Registers.{command_of, place_of}
@@ -284,15 +282,15 @@ module _ (c : Channel) (m : List ℕ) where
       pick_holds (Serves c) (resets_of (preset_of reg) v c.head.key) (λ _. record { straps = refl; unanswered = λ _ _. fresh_unanswered c.head.straps })
       (λ _. after c (keyed c reg v) _ (still c _ refl refl refl) (guarded_keeps _ (keyed c reg v) m _ (write_keeps (keyed c reg v) m reg v)))
 
-  write_at_lem : (p : Place) (v : ℕ) → Serves c (write_at c m p v)
+  write_at_lem : (p : Option Register) (v : ℕ) → Serves c (write_at c m p v)
   unfolding write_at
-  write_at_lem (Here reg) v = put_keeps reg v
-  write_at_lem Elsewhere v = still c _ refl refl refl
+  write_at_lem (Some reg) v = put_keeps reg v
+  write_at_lem None v = still c _ refl refl refl
 
-  read_at_lem : (p : Place) → Serves c (read_at c m p)
+  read_at_lem : (p : Option Register) → Serves c (read_at c m p)
   unfolding read_at read_of
-  read_at_lem (Here reg) = guarded_keeps _ c m _ (read_keeps c m reg)
-  read_at_lem Elsewhere = still c _ refl refl refl
+  read_at_lem (Some reg) = guarded_keeps _ c m _ (read_keeps c m reg)
+  read_at_lem None = still c _ refl refl refl
 
   event_at_lem : (number : ℕ) (e : Event) → Serves c (event_at c m number e)
   unfolding event_at

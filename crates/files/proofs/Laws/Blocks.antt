@@ -1,11 +1,12 @@
 -- The blocks of a file, as slices that start in its middle; and the file that is put together of a channel's.
 use Prim.Native.Nat.{ℕ, ◌+◌, ◌-◌, ◌*◌, ◌<◌, ◌≤◌}
-use mathlib.Core.List.{List, ◌∷◌, ◌++◌, append_assoc}
-use mathlib.Core.Path.{◌≡◌, sym, ◌∙◌, ap}
+use Rattle.std.specs.Prelude.{Result}
+use mathlib.Core.List.{List, [], ◌∷◌, ◌++◌, append_assoc, append-nil}
+use mathlib.Core.Path.{◌≡◌, refl, sym, ◌∙◌, ap}
 use native.Mathlib.Omega.{arith}
 use borrow.Author.Tests.{le-leb, lt-leb, le-ltb, lt-ltb}
-use lib.ListN.{length, get_or, take, drop, replicate, length-drop}
-use lib.Seq.{length-take-le}
+use lib.ListN.{length, get_or, set, take, drop, replicate, length-drop, drop_of_length-le}
+use lib.Seq.{length-take-le, drop-drop}
 use Rattle.laws.specs.Pick.{when◌then◌else◌}
 use Rattle.rules.specs.Numbers.{buffer_size}
 use Rattle.rules.specs.Tables.{start_of, fitting}
@@ -30,11 +31,12 @@ second_is f n = let e : 2 * n - n ≡ n = omega arith in rw (e, body_is f)
 pub first_count : (f : List ℕ) (n : ℕ) → 12 + 2 * n ≤ length f → n ≡ length (take n (body f))
 first_count f n h = rw (body_is f) (sym (length-take-le n (body_of f) (let d = length-drop 12 f in omega (arith, d, h))))
 
-pub fault_behind : (f : List ℕ) (n s : ℕ) (r : Fault) → 12 ≤ length f → n ≡ count_in f → n ≤ 64 → 12 + 2 * n ≤ length f
-    → s ≡ total (take (2 * n - n) (drop n (body f))) → r ≡ body_fault f n s → r ≡ fault_of f
+pub fault_behind : (f : List ℕ) (n s : ℕ) (r : Result (Unit {0}) Fault) → 12 ≤ length f → n ≡ count_in f → n ≤ 64 → 12 + 2 * n ≤ length f
+    → s ≡ total (take ((12 + 2 * n) - (12 + n)) (drop (12 + n) f)) → r ≡ body_fault f n s → r ≡ fault_of f
 unfolding fault_of when◌then◌else◌
 fault_behind f n s r h e few long sum b =
-    let t : s ≡ total (take n (drop n (body_of f))) = sum ∙ ap total (second_is f n) in
+    let k : (12 + 2 * n) - (12 + n) ≡ n = omega arith in
+    let t : s ≡ total (take n (drop n (body_of f))) = sum ∙ (rw (k, drop-drop n 12 f) refl) in
     b ∙ rw (le-ltb (length f) 12 h, ← e, le-ltb 64 n few, le-ltb (length f) (12 + 2 * n) long, t)
 
 pub sla_loaded : (f : List ℕ) (n : ℕ) (r : List ℕ) → n ≡ count_in f → r ≡ over (take n (body f)) (replicate 64 0) → r ≡ loaded_sla f
@@ -44,6 +46,15 @@ pub conf_loaded : (f : List ℕ) (n x : ℕ) (r : List ℕ) → n ≡ count_in f
 conf_loaded f n x r e few p h =
     let q : x ≡ count_in f = omega (arith, few, p) in
     h ∙ rw (second_is f n, q, e)
+
+-- the count put before the lengths
+pub conf_put : (t l r : List ℕ) (x : ℕ) → length t ≡ 65 → r ≡ over l (replicate (length (take 64 (drop 1 (set t 0 x)))) 0)
+    → take 1 (set t 0 x) ++ (r ++ drop 64 (drop 1 (set t 0 x))) ≡ over (x ∷ l) (replicate 65 0)
+conf_put [] l r x e h = absurd (omega (arith, e))
+conf_put (y ∷ k) l r x e h =
+    let none : drop 64 k ≡ [] = drop_of_length-le k {i = 64} (omega (arith, e)) in
+    let size : length (take 64 k) ≡ 64 = length-take-le 64 k (omega (arith, e)) in
+    rw (none, h, size, append-nil (over l (replicate 64 0))) refl
 
 pub bytes_loaded : (f m : List ℕ) (n : ℕ) (r : List ℕ) → n ≡ count_in f → length m ≡ buffer_size
     → r ≡ over (take (length (body f) - 2 * n) (drop (2 * n) (body f))) (replicate (length m) 0) → r ≡ loaded_bytes f

@@ -1,17 +1,12 @@
 -- Bytes put over others, a part lent at a time; lengths summed one by one; and the header compared.
-use Prim.Native.Nat.{ℕ, zero, suc, ◌+◌, ◌-◌, ◌<◌, ◌≤◌}
-use mathlib.Core.Bool.{Bool, true, false}
+use Prim.Native.Nat.{ℕ, zero, suc, ◌-◌, ◌≤◌}
 use mathlib.Core.List.{List, [], ◌++◌, append-nil}
 use mathlib.Core.Path.{◌≡◌, refl, sym, ◌∙◌, ap}
-use native.Mathlib.Numerals.{add-one}
 use native.Mathlib.Omega.{arith}
-use borrow.Author.Rules.{rules}
-use lib.ListN.{length, get_or, take, drop, replicate, length-drop, drop_of_length-le}
-use lib.Seq.{take_at, take_all, length-take-le, drop-cons}
-use Rattle.laws.specs.Cases.{pick_true, pick-false}
-use Rattle.files.specs.declared.format.Fault.TheVariants.{Sound, Forged}
-use Rattle.files.specs.File.{header_of, total, same_as, headed, over}
-use Rattle.files.specs.Laws.File.{over-more, same_is, same_self}
+use lib.ListN.{length, take, drop, replicate, length-drop, drop_of_length-le}
+use lib.Seq.{take_at, take_all, length-take-le}
+use Rattle.files.specs.File.{over}
+use Rattle.files.specs.Laws.File.{over-more}
 use Rattle.files.specs.Laws.Kept.{length_over}
 
 -- ---- bytes put over others
@@ -45,30 +40,3 @@ part_wiped x l m t n e k h p =
 
 pub take_count : (n : ℕ) (l : List ℕ) → n ≤ length l → n ≡ length (take n l)
 take_count n l h = sym (length-take-le n l h)
-
--- ---- lengths summed: those so far, and those to come
-pub sum_none : (l : List ℕ) → 0 + total (drop 0 l) ≡ total l
-sum_none l = omega arith
-
-pub sum_more : (l : List ℕ) (t i x r : ℕ) → t + total (drop i l) ≡ r → i < length l → x ≡ get_or l i 0 → (t + x) + total (drop (i + 1) l) ≡ r
-unfolding total
-sum_more l t i x r e h p = let d = ap total (drop-cons l i 0 h) in rw (add-one) (omega (arith, d, e, p))
-
-pub sum_all : (l : List ℕ) (t i : ℕ) → t + total (drop i l) ≡ total l → length l ≤ i → t ≡ total l
-unfolding total
-sum_all l t i e h = let d = ap total (drop_of_length-le l h) in omega (arith, d, e)
-
-pub ruleset sums = (sum_none, sum_more, sum_all, rules)
-
--- ---- the header compared
-pub is_headed : (f h : List ℕ) (n s : ℕ) (b : Bool) → h ≡ header_of n s → (b ≡ true → take 12 f ≡ h) → b ≡ true → Sound ≡ headed f n s
-unfolding headed
-is_headed f h n s b e g t = pick_true _ _ _ _ (rw (g t, e) (same_self (header_of n s))) refl
-
-not_headed : (f h : List ℕ) (b c : Bool) → (take 12 f ≡ h → b ≡ true) → b ≡ false → same_as (take 12 f) h ≡ c → c ≡ false
-not_headed f h b true g e t = sym (g (same_is _ _ t)) ∙ e
-not_headed f h b false g e t = refl
-
-pub is_forged : (f h : List ℕ) (n s : ℕ) (b : Bool) → h ≡ header_of n s → (take 12 f ≡ h → b ≡ true) → b ≡ false → Forged ≡ headed f n s
-unfolding headed
-is_forged f h n s b e g t = pick-false _ _ _ _ (rw (← e) (not_headed f h b (same_as (take 12 f) h) g t refl)) refl

@@ -1,5 +1,5 @@
 -- What a file that is read or written leaves of the part.
-use Rattle.std.specs.Prelude.{ℕ, Bool, ◌≡◌, refl, eqb, ltb, length, get_or}
+use Rattle.std.specs.Prelude.{ℕ, Bool, Result, Ok, Err, ◌≡◌, refl, eqb, ltb, length, get_or}
 use Rattle.std.proofs.Math.Bool.{true, false}
 use mathlib.Core.List.{List}
 use Rattle.std.proofs.Common.{◌∙◌, ltb-true, ltb-false, get_or-set_same}
@@ -22,7 +22,6 @@ use Rattle.files.specs.File.{fault_of, fault_number}
 use Rattle.files.specs.Work.{room_number}
 use Rattle.files.specs.Deeds.{load_deed, save_deed}
 use Rattle.files.specs.Statement.{Untouched}
-use Rattle.files.specs.Laws.File.{by_fault}
 
 -- neither number is 5, which sets BE
 abbrev Calm : ℕ → Type 0
@@ -32,8 +31,9 @@ deed_calm : (d : Deed) (o : Own) → Calm (d.number o) → Calm (deed_number d o
 unfolding deed_number
 deed_calm d o h = pick_holds Calm (active_of o.channel.head.walk.phase) (λ _. refl) (λ _. h)
 
-fault_calm : (x : Fault) → Calm (fault_number x)
-fault_calm = by_fault (λ x. Calm (fault_number x)) refl (λ x e. rw e)
+fault_calm : (x : Result (Unit {0}) Fault) → Calm (fault_number x)
+fault_calm (Ok t) = refl
+fault_calm (Err x) = refl
 
 pub load_calm : (f : List ℕ) (o : Own) → eqb (deed_number (load_deed f) o) past_buffer ≡ false
 load_calm f o = deed_calm (load_deed f) o (fault_calm (fault_of f))

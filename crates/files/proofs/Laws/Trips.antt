@@ -1,20 +1,20 @@
 -- A file read and then written, and written and then read.
-use Rattle.std.specs.Prelude.{ℕ, zero, suc, ◌+◌, ◌≤◌, List, [], ◌∷◌, ◌++◌, ◌≡◌, refl, length, get_or, take, drop, replicate}
+use Rattle.std.specs.Prelude.{ℕ, zero, suc, ◌+◌, ◌≤◌, List, [], ◌∷◌, ◌++◌, Result, Ok, Err, ◌≡◌, refl, length, get_or, take, drop, replicate}
 use Rattle.std.proofs.Common.{sym, ◌∙◌, ap, subst, arith, le-leb, leb-true, le-ltb, ltb-false, length-drop, take_at, length-take-le}
 use Rattle.laws.specs.Pick.{when◌then◌else◌}
 use Rattle.laws.specs.Cases.{accepted, not_refused}
-use Rattle.rules.specs.Numbers.{buffer_size, done}
+use Rattle.rules.specs.Numbers.{buffer_size, done, not_a_file, no_room}
 use Rattle.rules.specs.Tables.{start_of, sum_of, fitting}
 use Rattle.channel.proofs.Laws.Range.{range_count}
 use Rattle.works.specs.Work.{Own}
 use Rattle.works.specs.Idle.{IdleOwn, deed_number, deed_out}
 use Rattle.works.proofs.Laws.Idle.{idle_number, done_after, done_out}
-use Rattle.files.specs.File.{Blocks, Readable, total, count_in, addresses_in, lengths_in, data_in, fault_of, fault_number, not_afile, no_room, over}
+use Rattle.files.specs.File.{Blocks, Readable, total, count_in, addresses_in, lengths_in, data_in, fault_of, fault_number, over}
 use Rattle.files.specs.declared.format.Fault.{Fault}
 use Rattle.files.specs.Work.{loaded_conf, loaded_sla, loaded_bytes, loaded_own, first_addresses, first_lengths, first_bytes, tables_file, file_from, size_of, room_number}
 use Rattle.files.specs.Deeds.{load_deed, save_deed}
 use Rattle.files.specs.Statement.{Resting, ReadWritten, Writes, WrittenRead}
-use Rattle.files.specs.Laws.File.{count_of, addresses_of, lengths_of, data_of, written_readable, by_fault, number_readable}
+use Rattle.files.specs.Laws.File.{count_of, addresses_of, lengths_of, data_of, written_readable, number_readable}
 use Rattle.files.specs.Laws.File.{readable_is, readable_count, readable_addresses, readable_lengths, readable_data, readable_fits, readable_long}
 use Rattle.files.specs.Laws.Kept.{load_keeps, length_over}
 
@@ -130,7 +130,7 @@ own_room o h out z = sym (idle_number (save_deed out) o h.idle) ∙ z
 -- ---- 10 EXACTLY WHEN NO CHANNEL WRITES THE FILE
 module _ (f : List ℕ) (o : Own) (h : Resting o) where
   -- what an Idle channel writes is not answered 10
-  pub written_not_10 : (q : Own) → Resting q → Writes q f → deed_number (load_deed f) o ≡ not_afile → ⊥
+  pub written_not_10 : (q : Own) → Resting q → Writes q f → deed_number (load_deed f) o ≡ not_a_file → ⊥
   written_not_10 q s w e =
       let room = sym (idle_number (save_deed f) q s.idle) ∙ w.answered in
       let r : Readable f = subst Readable w.file (own_readable q s f room) in
@@ -138,16 +138,18 @@ module _ (f : List ℕ) (o : Own) (h : Resting o) where
       let z = ap fault_number r in omega (arith, n, z)
 
   -- what is not answered 10 is readable, and the channel into which it is read writes it
-  ten_by : (x : Fault) → ((fault_number x ≡ not_afile → ⊥) → ⊥) → fault_number x ≡ not_afile
-  ten_by = by_fault (λ x. ((fault_number x ≡ not_afile → ⊥) → ⊥) → fault_number x ≡ not_afile) (λ k. absurd (k (λ e. omega arith))) (λ x e k. e)
+  ten_by : (x : Result (Unit {0}) Fault) → ((fault_number x ≡ not_a_file → ⊥) → ⊥) → fault_number x ≡ not_a_file
+  ten_by (Ok t) k = absurd (k (λ e. omega arith))
+  ten_by (Err x) k = refl
 
-  pub ten_or : ((deed_number (load_deed f) o ≡ not_afile → ⊥) → ⊥) → deed_number (load_deed f) o ≡ not_afile
+  pub ten_or : ((deed_number (load_deed f) o ≡ not_a_file → ⊥) → ⊥) → deed_number (load_deed f) o ≡ not_a_file
   ten_or k = let n = idle_number (load_deed f) o h.idle in n ∙ ten_by (fault_of f) (λ e. k (λ z. e (sym n ∙ z)))
 
-  fault_number_lem : (x : Fault) → (fault_number x ≡ not_afile → ⊥) → fault_number x ≡ 0
-  fault_number_lem = by_fault (λ x. (fault_number x ≡ not_afile → ⊥) → fault_number x ≡ 0) (λ k. refl) (λ x e k. absurd (k e))
+  fault_number_lem : (x : Result (Unit {0}) Fault) → (fault_number x ≡ not_a_file → ⊥) → fault_number x ≡ 0
+  fault_number_lem (Ok t) k = refl
+  fault_number_lem (Err x) k = absurd (k refl)
 
-  module _ (e : deed_number (load_deed f) o ≡ not_afile → ⊥) where
+  module _ (e : deed_number (load_deed f) o ≡ not_a_file → ⊥) where
     readable : Readable f
     readable = number_readable f (fault_number_lem (fault_of f) (λ z. e (idle_number (load_deed f) o h.idle ∙ z)))
 

@@ -1,5 +1,5 @@
 -- Bytes typed one after the other into TRANCONFIG, SLATABLE or DATA of an Idle channel.
-use Rattle.std.specs.Prelude.{ℕ, ◌+◌, ◌*◌, ◌/◌, ◌%◌, ◌<◌, ◌≤◌, List, [], ◌∷◌, ◌++◌, map, ◌≡◌, length, set}
+use Rattle.std.specs.Prelude.{ℕ, ◌+◌, ◌*◌, ◌/◌, ◌%◌, ◌<◌, ◌≤◌, List, [], ◌∷◌, ◌++◌, map, Some, ◌≡◌, length, set}
 use Rattle.std.proofs.Math.Bool.{false}
 use Rattle.std.proofs.lemmas.List.{map-append}
 use Rattle.std.proofs.Math.Path.{refl, ap}
@@ -11,7 +11,6 @@ use Rattle.laws.specs.Pick.{when◌then◌else◌}
 use Rattle.laws.specs.Lists.{All}
 use Rattle.rules.specs.declared.registers.Register.{Register}
 use Rattle.rules.specs.declared.registers.Register.TheVariants.{Slatable, Tranconfig, Data}
-use Rattle.rules.specs.declared.registers.Place.TheVariants.{Here}
 use Rattle.rules.specs.Access.{sla_refusal, conf_refusal, too_many, locked_of, past_refusal, data_refusal, spot_of, preset_of, resets_of}
 use Rattle.rules.specs.Numbers.{buffer_size}
 use Rattle.rules.specs.Registers.{place_of, register_place, register_at as register_named, table_at, active_of}
@@ -37,7 +36,7 @@ use Rattle.files.specs.Laws.File.{readable_count, readable_addresses, readable_l
 use Rattle.files.proofs.Laws.Trips.{sum_over}
 
 -- ---- a write that is not refused
-place_at : (k n : ℕ) → k < 3 → n < 16 → place_of k (register_at k n) ≡ Here (register_named n)
+place_at : (k n : ℕ) → k < 3 → n < 16 → place_of k (register_at k n) ≡ Some (register_named n)
 unfolding place_of register_place when◌then◌else◌
 place_at k n h l =
     let q : (0xC0 + 16 * k + n) / 16 ≡ 12 + k = omega arith in

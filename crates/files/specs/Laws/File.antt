@@ -1,31 +1,18 @@
 -- The file's round trip: the file of blocks gives them back and is readable, and a readable file is the file of its blocks.
-use Rattle.std.specs.Prelude.{ℕ, ◌+◌, ◌*◌, ◌≤◌, Bool, false, ◌≡◌, refl, drop}
+use Rattle.std.specs.Prelude.{ℕ, ◌+◌, ◌*◌, ◌≤◌, Bool, false, Result, Ok, Err, ◌≡◌, refl, bytes_eq, drop}
 use Rattle.std.proofs.Math.Bool.{true}
-use mathlib.Core.List.{List, [], ◌∷◌, ◌++◌, append_assoc}
+use mathlib.Core.List.{List, ◌++◌, append_assoc}
 use Rattle.std.proofs.Math.Path.{sym, ap}
 use Rattle.std.proofs.Common.{◌∙◌, length-drop, drop-drop, length-take-le}
 use native.Mathlib.Omega.{arith}
-use borrow.Author.Tests.{eqb-true, eq-eqb, ltb-false, le-ltb}
+use borrow.Author.Tests.{ltb-false, le-ltb}
+use lib.Pointwise.{bytes_decides}
 use Rattle.std.proofs.Math.ListN.{length, take, length-append, take-append-drop}
 use Rattle.std.proofs.Math.Seq.{take_at, drop_at}
 use Rattle.laws.specs.Pick.{when◌then◌else◌}
-use Rattle.laws.specs.Cases.{both, with, false_not_true}
 use Rattle.rules.specs.Numbers.{buffer_size}
 use Rattle.files.specs.declared.format.Fault.{Fault}
-use Rattle.files.specs.declared.format.Fault.TheVariants.{Sound, NoHeader, Crowded, Short, Overfull, Longer, Forged}
-use Rattle.files.specs.File.{header_of, file_of, total, count_in, body_of, addresses_in, lengths_in, data_in, same_as, headed, body_fault, fault_of, fault_number, not_afile, Readable, Blocks, over}
-
--- ---- two lists that are the same
-pub same_is : (l k : List ℕ) → same_as l k ≡ true → l ≡ k
-unfolding when◌then◌else◌
-same_is [] [] e = refl
-same_is [] (y ∷ k) e = absurd (omega (arith, false_not_true e))
-same_is (x ∷ l) [] e = absurd (omega (arith, false_not_true e))
-same_is (x ∷ l) (y ∷ k) e = let h = both _ _ e in let q : x ≡ y = eqb-true x y h.0 in rw (q, same_is l k h.1)
-
-pub same_self : (l : List ℕ) → same_as l l ≡ true
-same_self [] = refl
-same_self (x ∷ l) = with _ _ (eq-eqb x x refl) (same_self l)
+use Rattle.files.specs.File.{header_of, file_of, total, count_in, body_of, addresses_in, lengths_in, data_in, headed, body_fault, fault_of, fault_number, Readable, Blocks, over}
 
 -- ---- bytes put over others: one piece, and another behind it
 pub over-more : (x y l : List ℕ) (k : ℕ) → length x ≡ k → take k (over x l) ++ over y (drop k (over x l)) ≡ over (x ++ y) l
@@ -86,7 +73,7 @@ module _ (a b d : List ℕ) (h : Blocks a b d) where
       let l : length g ≡ 12 + 2 * length a + length d = length_of_lem in
       let few = h.few in
       let fits = h.fits in
-      let same : same_as (take 12 g) (header_of (length a) (length d)) ≡ true = rw front (same_self (header_of (length a) (length d))) in
+      let same : bytes_eq (take 12 g) (header_of (length a) (length d)) ≡ true = (bytes_decides _ _).1 front in
       rw (
         s,
         n,
@@ -99,32 +86,27 @@ module _ (a b d : List ℕ) (h : Blocks a b d) where
         same,
       )
 
--- ---- a fault is none, or gives no. 10
-pub by_fault : (P : Fault → Type 0) → P Sound → ((x : Fault) → fault_number x ≡ not_afile → P x) → (x : Fault) → P x
-by_fault P s f Sound = s
-by_fault P s f NoHeader = f NoHeader refl
-by_fault P s f Crowded = f Crowded refl
-by_fault P s f Short = f Short refl
-by_fault P s f Overfull = f Overfull refl
-by_fault P s f Longer = f Longer refl
-by_fault P s f Forged = f Forged refl
-
-sound_only : (x : Fault) → fault_number x ≡ 0 → x ≡ Sound
-sound_only = by_fault (λ x. fault_number x ≡ 0 → x ≡ Sound) (λ e. refl) (λ x k e. absurd (omega (arith, k, e)))
+-- ---- what is no fault
+unrefused : (x : Result (Unit {0}) Fault) → fault_number x ≡ 0 → x ≡ Ok tt
+unrefused (Ok t) e = refl
+unrefused (Err x) e = absurd (omega arith)
 
 pub number_readable : (f : List ℕ) → fault_number (fault_of f) ≡ 0 → Readable f
-number_readable f e = sound_only (fault_of f) e
+number_readable f e = unrefused (fault_of f) e
+
+no_fault : (x : Fault) → ◌≡◌ {A = Result (Unit {0}) Fault} (Err x) (Ok tt) → ⊥
+no_fault x e = let n = ap fault_number e in omega (arith, n)
 
 -- a test that finds a fault was passed
-unfaulted : (b : Bool) (x y : Fault) → (fault_number x ≡ 0 → ⊥) → (when b then x else y) ≡ Sound → (b ≡ false) × (y ≡ Sound)
+unfaulted : (b : Bool) (x : Fault) (y : Result (Unit {0}) Fault) → (when b then Err x else y) ≡ Ok tt → (b ≡ false) × (y ≡ Ok tt)
 unfolding when◌then◌else◌
-unfaulted true x y ne e = absurd (ne (ap fault_number e))
-unfaulted false x y ne e = (refl, e)
+unfaulted true x y e = absurd (no_fault x e)
+unfaulted false x y e = (refl, e)
 
-sound_true : (b : Bool) (y : Fault) → (fault_number y ≡ 0 → ⊥) → (when b then Sound else y) ≡ Sound → b ≡ true
+sound_true : (b : Bool) (x : Fault) → ◌≡◌ {A = Result (Unit {0}) Fault} (when b then Ok tt else Err x) (Ok tt) → b ≡ true
 unfolding when◌then◌else◌
-sound_true true y ne e = refl
-sound_true false y ne e = absurd (ne (ap fault_number e))
+sound_true true x e = refl
+sound_true false x e = absurd (no_fault x e)
 
 -- A READABLE FILE IS THE FILE OF ITS BLOCKS
 record Parts (f : List ℕ) : Type 0 where
@@ -138,19 +120,19 @@ unfolding fault_of body_fault headed
 parts f e =
     let n = count_in f in
     let s = total (lengths_in f) in
-    let a = unfaulted _ _ _ (λ z. omega arith) e in
-    let b = unfaulted _ _ _ (λ z. omega arith) a.1 in
-    let c = unfaulted _ _ _ (λ z. omega arith) b.1 in
-    let d = unfaulted _ _ _ (λ z. omega arith) c.1 in
-    let g = unfaulted _ _ _ (λ z. omega arith) d.1 in
-    let k = unfaulted _ _ _ (λ z. omega arith) g.1 in
+    let a = unfaulted _ _ _ e in
+    let b = unfaulted _ _ _ a.1 in
+    let c = unfaulted _ _ _ b.1 in
+    let d = unfaulted _ _ _ c.1 in
+    let g = unfaulted _ _ _ d.1 in
+    let k = unfaulted _ _ _ g.1 in
     let low = ltb-false (length f) (12 + 2 * n + s) g.0 in
     let high = ltb-false (12 + 2 * n + s) (length f) k.0 in
     record {
       few = ltb-false 64 n b.0;
       fits = ltb-false buffer_size s d.0;
       long = omega (arith, low, high);
-      front = same_is _ _ (sound_true _ _ (λ z. omega arith) k.1);
+      front = (bytes_decides _ _).0 (sound_true _ _ k.1);
     }
 
 module _ (f : List ℕ) (e : Readable f) where

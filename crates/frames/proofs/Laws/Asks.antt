@@ -1,13 +1,12 @@
 -- A step that asks for a frame meets none under way, and resets nothing; and STA, TICK and a trigger edge ask for one.
-use Rattle.std.specs.Prelude.{ℕ, zero, suc, ◌+◌, ◌*◌, ◌<◌, Bool, true, false, ◌≡◌, refl, eqb}
+use Rattle.std.specs.Prelude.{ℕ, zero, suc, ◌+◌, ◌*◌, ◌<◌, Bool, true, false, ◌≡◌, refl, eqb, Option, Some, None}
 use Rattle.std.proofs.Common.{arith, eq-eqb, lt-ltb}
 use Rattle.laws.specs.Pick.{when◌then◌else◌}
 use Rattle.laws.specs.Cases.{pick_holds, both}
 use Rattle.rules.specs.declared.parts.Kind.{Kind}
 use Rattle.rules.specs.declared.state.Phase.{Phase}
 use Rattle.rules.specs.declared.state.Phase.TheVariants.{Idle, Address, Sending, Receiving, Stopping, Waiting}
-use Rattle.rules.specs.declared.registers.Place.{Place}
-use Rattle.rules.specs.declared.registers.Place.TheVariants.{Here, Elsewhere}
+use Rattle.rules.specs.declared.registers.Register.{Register}
 use Rattle.rules.specs.declared.registers.Register.TheVariants.{Control}
 use Rattle.rules.specs.Access.{kept_if, overrun_of, resets_of}
 use Rattle.rules.specs.Registers.{table_at, register_at, register_place, command_of, place_of}
@@ -72,12 +71,12 @@ beat_unasked Stopping e = refl
 beat_unasked Waiting e = no e
 
 module _ (c : Channel) (number : ℕ) (r : runs_of c.head.walk.phase ≡ true) where
-  place_unasked : (p : Place) (v : ℕ) → place_begins c p v ≡ false
-  place_unasked (Here reg) v =
+  place_unasked : (p : Option Register) (v : ℕ) → place_begins c p v ≡ false
+  place_unasked (Some reg) v =
       pick_holds (λ (b : Bool). b ≡ false) (is_control reg)
       (λ _. let k = command_of v in mild_unasked (ask_at c k) (mild c.head.walk.phase k (te_after c.head k) (overrun_of k.aiptrrst (data_place c.head c.tranconfig)) r))
       (λ _. refl)
-  place_unasked Elsewhere v = refl
+  place_unasked None v = refl
 
   op_unasked : (op : Op) → op_begins c number op ≡ false
   op_unasked (Write a v) = place_unasked (place_of number a) v
@@ -99,10 +98,10 @@ unfolding begins_by when◌then◌else◌
 runs_unbegun c p t r = rw (runs_unasked c p t r)
 
 -- ---- what asks for a frame resets nothing
-place_unreset : (c : Channel) (p : Place) (v : ℕ) → place_begins c p v ≡ true → place_resets c p v ≡ false
+place_unreset : (c : Channel) (p : Option Register) (v : ℕ) → place_begins c p v ≡ true → place_resets c p v ≡ false
 unfolding resets_of when◌then◌else◌
-place_unreset c (Here reg) v e = rw (is_control_lem reg (both _ _ e).0)
-place_unreset c Elsewhere v e = no e
+place_unreset c (Some reg) v e = rw (is_control_lem reg (both _ _ e).0)
+place_unreset c None v e = no e
 
 op_unreset : (c : Channel) (number : ℕ) (op : Op) → op_begins c number op ≡ true → op_resets c number op ≡ false
 op_unreset c number (Write a v) e = place_unreset c (place_of number a) v e
@@ -127,7 +126,7 @@ control_target (suc zero) v h = refl
 control_target (suc (suc zero)) v h = refl
 control_target (suc (suc (suc c))) v h = absurd (omega (arith, h))
 
-control_place : (c : ℕ) → c < 3 → place_of c (0xC0 + 16 * c) ≡ Here Control
+control_place : (c : ℕ) → c < 3 → place_of c (0xC0 + 16 * c) ≡ Some Control
 unfolding place_of register_place register_at table_at when◌then◌else◌
 control_place zero h = refl
 control_place (suc zero) h = refl

@@ -1,12 +1,11 @@
 -- What is called a reset of channel c leaves it as after a reset.
-use Rattle.std.specs.Prelude.{ℕ, zero, suc, ◌<◌, true, List, ◌≡◌, length}
+use Rattle.std.specs.Prelude.{ℕ, zero, suc, ◌<◌, true, List, ◌≡◌, length, Option, Some, None}
 use Rattle.std.proofs.Math.Path.{refl}
 use Rattle.std.proofs.Common.{◌∙◌, arith, get_or-set_same}
 use borrow.Author.Tests.{eq-eqb}
 use Rattle.laws.specs.Pick.{when◌then◌else◌}
 use Rattle.rules.specs.declared.parts.Device.{Device}
-use Rattle.rules.specs.declared.registers.Place.{Place}
-use Rattle.rules.specs.declared.registers.Place.TheVariants.{Here, Elsewhere}
+use Rattle.rules.specs.declared.registers.Register.{Register}
 use Rattle.rules.specs.Registers.{place_of}
 use Rattle.steps.specs.declared.map.Op.{Op}
 use Rattle.steps.specs.declared.map.Op.TheVariants.{Write, Read, Wire}
@@ -29,10 +28,10 @@ use Rattle.frames.specs.Statement.{channel_of, Fresh}
 use Rattle.frames.proofs.Laws.View.{split, left_size, resets-left}
 use Rattle.frames.proofs.Laws.Runs.{Follows}
 
-place_resets_lem : (c : Channel) (m : List ℕ) (p : Place) (v : ℕ) → place_resets c p v ≡ true → Fresh (write_at c m p v).stepped.channel
+place_resets_lem : (c : Channel) (m : List ℕ) (p : Option Register) (v : ℕ) → place_resets c p v ≡ true → Fresh (write_at c m p v).stepped.channel
 unfolding write_at put_of when◌then◌else◌
-place_resets_lem c m (Here reg) v e = rw e
-place_resets_lem c m Elsewhere v e = no e
+place_resets_lem c m (Some reg) v e = rw e
+place_resets_lem c m None v e = no e
 
 op_resets_lem : (c : Channel) (m : List ℕ) (number : ℕ) (op : Op) → op_resets c number op ≡ true → Fresh (served_by c m number op).stepped.channel
 unfolding served_by

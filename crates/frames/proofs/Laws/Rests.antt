@@ -1,5 +1,5 @@
 -- Outside a frame: a step that asks for none leaves every BYTECOUNT and has no action; one that asks begins a frame, or none where it can't.
-use Rattle.std.specs.Prelude.{ℕ, zero, suc, ◌+◌, ◌-◌, ◌<◌, ◌≤◌, Bool, List, ◌≡◌, eqb, ltb, get_or, replicate}
+use Rattle.std.specs.Prelude.{ℕ, zero, suc, ◌+◌, ◌-◌, ◌<◌, ◌≤◌, Bool, List, ◌≡◌, eqb, ltb, get_or, replicate, Option, Some, None}
 use Rattle.std.proofs.Math.Bool.{true, false}
 use Rattle.std.proofs.Math.Path.{refl}
 use Rattle.std.proofs.Common.{sym, ◌∙◌, ap, arith}
@@ -12,8 +12,6 @@ use Rattle.rules.specs.declared.state.Phase.{Phase}
 use Rattle.rules.specs.declared.state.Phase.TheVariants.{Idle, Address, Sending, Receiving, Stopping, Waiting}
 use Rattle.rules.specs.declared.registers.Register.{Register}
 use Rattle.rules.specs.declared.registers.Register.TheVariants.{Status, Control, Chstatus, Intmsk, Slatable, Tranconfig, Data, Transel, Tranofs, Bytecount, Setting, Preset}
-use Rattle.rules.specs.declared.registers.Place.{Place}
-use Rattle.rules.specs.declared.registers.Place.TheVariants.{Here, Elsewhere}
 use Rattle.rules.specs.Access.{preset_of, key_after}
 use Rattle.rules.specs.Numbers.{nowhere, not_awaited}
 use Rattle.rules.specs.Registers.{place_of}
@@ -39,7 +37,7 @@ use Rattle.sequence.proofs.Laws.Meeting.Meeting.{nack_address as nack_address', 
 use Rattle.steps.specs.declared.map.Op.{Op}
 use Rattle.steps.specs.declared.map.Op.TheVariants.{Write, Read, Wire}
 use Rattle.head.specs.declared.state.Head.{Head}
-use Rattle.head.specs.State.{plain, refused, answered}
+use Rattle.head.specs.State.{plain, refused, answer_of, headed}
 use Rattle.head.specs.Head.{framecnt_of, kind_of, frame_ended}
 use Rattle.head.specs.Access.{refusal_of}
 use Rattle.channel.specs.declared.state.Channel.{Channel}
@@ -185,7 +183,7 @@ module _ (c : Channel) (m : List ℕ) (calm : runs_of c.head.walk.phase ≡ fals
   Access d b = Outside c m none d b
 
   -- the head alone is changed, to one without a frame
-  idle : (h : Head) (n v : ℕ) → runs_of h.walk.phase ≡ false → Rests c (leaving m (on c (answered h n v NoAction)))
+  idle : (h : Head) (n v : ℕ) → runs_of h.walk.phase ≡ false → Rests c (leaving m (on c (headed h (answer_of n v NoAction))))
   idle h n v e = record { counted = refl; runs = e; action = refl }
 
   -- the phase is as it was, and so is BYTECOUNT
@@ -235,7 +233,7 @@ module _ (c : Channel) (m : List ℕ) (calm : runs_of c.head.walk.phase ≡ fals
   unfolding write_of
   write_outside reg v = guarded_outside _ _ _ (written_outside reg v) (begins_open reg v)
 
-  read_outside : (p : Place) → Access (read_at c m p) false
+  read_outside : (p : Option Register) → Access (read_at c m p) false
   read_outside p = let s = read_stays c m p in moved _ s.counted s.phase s.action
 
   -- ---- events, by what they meet
@@ -287,10 +285,10 @@ rekeyed_outside k c m h d true (asks x q e u) = asks x q e u
 
 -- ---- a step of channel `number` that does not reset it
 module _ (c : Channel) (m : List ℕ) (number : ℕ) (low : number < 3) (calm : runs_of c.head.walk.phase ≡ false) where
-  place_outside : (p : Place) (v : ℕ) → place_resets c p v ≡ false → Outside c m none (write_at c m p v) (place_begins c p v)
+  place_outside : (p : Option Register) (v : ℕ) → place_resets c p v ≡ false → Outside c m none (write_at c m p v) (place_begins c p v)
   unfolding write_at put_of when◌then◌else◌
-  place_outside (Here reg) v e = rw e (rekeyed_outside (key_after (preset_of reg) v) c m none _ _ (write_outside (keyed c reg v) m calm reg v))
-  place_outside Elsewhere v e = rests (kept c m calm nowhere) nothing-heard
+  place_outside (Some reg) v e = rw e (rekeyed_outside (key_after (preset_of reg) v) c m none _ _ (write_outside (keyed c reg v) m calm reg v))
+  place_outside None v e = rests (kept c m calm nowhere) nothing-heard
 
   pub own_outside : (op : Op) → op_resets c number op ≡ false
       → Outside c m (heard_op op (served_by c m number op).stepped.answer.number) (served_by c m number op) (op_begins c number op)

@@ -1,5 +1,5 @@
 -- Any step that a channel in a frame feels, a reset apart, goes as a frame does.
-use Rattle.std.specs.Prelude.{ℕ, ◌+◌, ◌<◌, ◌≤◌, Bool, true, false, List, ◌≡◌, eqb, ltb, length}
+use Rattle.std.specs.Prelude.{ℕ, ◌+◌, ◌<◌, ◌≤◌, Bool, true, false, List, ◌≡◌, eqb, ltb, length, Option, Some, None}
 use Rattle.std.proofs.Math.Path.{refl}
 use Rattle.std.proofs.Common.{sym, ap, arith}
 use borrow.Author.Tests.{ltb-true, eqb-true, eq-eqb}
@@ -12,8 +12,6 @@ use Rattle.rules.specs.declared.state.Walk.{Walk}
 use Rattle.rules.specs.declared.registers.Command.{Command}
 use Rattle.rules.specs.declared.registers.Register.{Register}
 use Rattle.rules.specs.declared.registers.Register.TheVariants.{Status, Control, Chstatus, Intmsk, Slatable, Tranconfig, Data, Transel, Tranofs, Bytecount, Setting, Preset}
-use Rattle.rules.specs.declared.registers.Place.{Place}
-use Rattle.rules.specs.declared.registers.Place.TheVariants.{Here, Elsewhere}
 use Rattle.rules.specs.Numbers.{nowhere, address_refused, data_refused}
 use Rattle.rules.specs.Registers.{active_of, command_of, place_of}
 use Rattle.rules.specs.Access.{locked_of}
@@ -189,10 +187,10 @@ guarded_stays : (c : Channel) (m : List ℕ) (n : ℕ) (d : Served) → (n ≡ 0
 unfolding guarded
 guarded_stays c m n d f = pick_holds (Stays c m) (eqb n 0) (λ t. f (eqb-true n 0 t)) (λ _. head_stays c m _ refl refl refl refl refl)
 
-pub read_stays : (c : Channel) (m : List ℕ) (p : Place) → Stays c m (read_at c m p)
+pub read_stays : (c : Channel) (m : List ℕ) (p : Option Register) → Stays c m (read_at c m p)
 unfolding read_at read_of
-read_stays c m (Here reg) = guarded_stays c m _ _ (λ _. reads_stay c m reg)
-read_stays c m Elsewhere = head_stays c m _ refl refl refl refl refl
+read_stays c m (Some reg) = guarded_stays c m _ _ (λ _. reads_stay c m reg)
+read_stays c m None = head_stays c m _ refl refl refl refl refl
 
 -- ---- writes
 
@@ -286,12 +284,12 @@ module _ (c : Channel) (m : List ℕ) (runs : runs_of c.head.walk.phase ≡ true
   same_stays : Stays c m (leaving m (on c (plain c.head)))
   same_stays = head_stays c m _ refl refl refl refl refl
 
-put_stays : (c : Channel) (m : List ℕ) → runs_of c.head.walk.phase ≡ true → (p : Place) (v : ℕ) → place_resets c p v ≡ false → Stays c m (write_at c m p v)
+put_stays : (c : Channel) (m : List ℕ) → runs_of c.head.walk.phase ≡ true → (p : Option Register) (v : ℕ) → place_resets c p v ≡ false → Stays c m (write_at c m p v)
 unfolding write_at put_of when◌then◌else◌
-put_stays c m r (Here reg) v e =
+put_stays c m r (Some reg) v e =
     let s = write_stays (keyed c reg v) m r reg v in
     rw e (record { slas = s.slas; lengths = s.lengths; counted = s.counted; phase = s.phase; action = s.action; bytes = s.bytes })
-put_stays c m r Elsewhere v e = head_stays c m _ refl refl refl refl refl
+put_stays c m r None v e = head_stays c m _ refl refl refl refl refl
 
 -- ---- events
 heard-done : (e : Event) (number : ℕ) → number ≡ 0 → heard_op (Wire e) number ≡ event e

@@ -4,10 +4,9 @@ use Rattle.std.proofs.Math.Bool.{false}
 use mathlib.Core.List.{List, [], ◌∷◌, map}
 use Rattle.std.proofs.Math.Logic.{inl, inr, ⊎_elim}
 use Rattle.std.proofs.Common.{◌∙◌, sym, drop-cons}
-use Rattle.std.proofs.Math.Numerals.{add-one}
 use native.Mathlib.Omega.{arith}
 use borrow.Author.Tests.{eqb-true, not-true}
-use Rattle.std.proofs.Math.ListN.{drop_of_length-le}
+use Rattle.std.specs.List.{list_any}
 use Rattle.laws.specs.Pick.{when◌then◌else◌}
 use Rattle.laws.specs.Cases.{false_not_true, both}
 use Rattle.laws.specs.Lists.{Some}
@@ -33,21 +32,12 @@ of_rows r l l' p q = cc
 
 pub ruleset rows = (row, beside, on_fm_lem, of_rows, refl)
 
--- ---- looked through: no row before the i-th holds
-module _ (rows : List Bool) (i : ℕ) (e : some_of rows ≡ some_of (drop i rows)) where
-  pub holds_here : i < length rows → get_or rows i false ≡ true → true ≡ some_of rows
-  unfolding some_of when◌then◌else◌
-  holds_here h t = rw e (rw (drop-cons rows i false h, t))
-
-  pub holds_behind : i < length rows → get_or rows i false ≡ false → (i + 1 ≤ length rows) × (some_of rows ≡ some_of (drop (i + 1) rows))
-  unfolding some_of when◌then◌else◌
-  holds_behind h t = (omega arith, e ∙ rw (drop-cons rows i false h, t, add-one i))
-
-  pub holds_nowhere : length rows ≤ i → false ≡ some_of rows
-  unfolding some_of
-  holds_nowhere h = rw (e, drop_of_length-le rows h)
-
-pub ruleset looked = (holds_here, holds_behind, holds_nowhere)
+-- ---- looked through
+pub some_is : (rows : List Bool) → list_any (λ row. row) rows ≡ some_of rows
+unfolding some_of when◌then◌else◌
+some_is [] = refl
+some_is (true ∷ rows) = refl
+some_is (false ∷ rows) = some_is rows
 
 -- ---- what a row says, and what some row says
 module _ (cause masked : Bool) where

@@ -14,4 +14,4 @@ as_byte true = (refl, omega arith)
 as_byte false = (refl, omega arith)
 
 pub returns : goal.returns
-returns c = as_byte c.args.flag
+returns c = rw c.from.ensures (as_byte c.args.flag)

@@ -4,10 +4,10 @@ use Rattle.interrupt.proofs.Laws.Interrupt.{rows, calm_pending}
 use mathlib.Core.Path.{◌∙◌, sym}
 use Rattle.interrupt.proofs.pending.Goals as goal
 
-pub returns-then-calm : goal.returns-then-calm
+pub returns-then-not-calm : goal.returns-then-not-calm
 unfolding pending_of
-returns-then-calm c = sym (calm_pending _ _ _ (sym c.calm.ensures ∙ c.if-calm.true))
+returns-then-not-calm c = search rows
 
-pub returns : goal.returns
+pub returns-else-not-calm : goal.returns-else-not-calm
 unfolding pending_of
-returns c = search rows
+returns-else-not-calm c = rw (c.if-not-calm.false, calm_pending c.args.kind c.args.f c.args.mask (sym c.calm.ensures ∙ c.if-not-calm.false))

@@ -1,12 +1,11 @@
--- `interrupt::some` meets its contract: no row before the i-th holds.
-use Rattle.interrupt.proofs.Laws.Interrupt.{looked, holds_behind}
+-- `interrupt::some` meets its contract: what `any` says of the rows.
+use Rattle.std.proofs.Common.{Bool, ◌∙◌, rules, tests}
+use Rattle.std.proofs.lemmas.Iterator.{YieldsList-from_slice}
+use Rattle.std.proofs.lemmas.Iterator.Search.{any_from_yields_List}
+use Rattle.interrupt.proofs.Laws.Interrupt.{some_is}
 use Rattle.interrupt.proofs.some.Goals as goal
 
-pub returns-then-rows-i : goal.returns-then-rows-i
-returns-then-rows-i c = search looked
-
-pub loop-i-preserved : goal.loop-i-preserved
-loop-i-preserved c = holds_behind _ _ c.loop-i.invariant.1 c.loop-i-test.true c.if-rows-i.false
-
 pub returns : goal.returns
-returns c = search looked
+returns c =
+    any_from_yields_List (λ (row : Bool). row) _ _ _ c.any.ensures.ran (YieldsList-from_slice c.args.rows.now cc) (λ x b q k. search (rules, tests))
+    ∙ some_is c.args.rows.now

@@ -1,5 +1,5 @@
 -- A step of one channel with another INTMSK: it does the same, and leaves that INTMSK; where the two differ in bits that are not heeded.
-use Rattle.std.specs.Prelude.{ℕ, ◌/◌, ◌%◌, Bool, true, List, [], ◌≡◌, eqb, ltb}
+use Rattle.std.specs.Prelude.{ℕ, ◌/◌, ◌%◌, Bool, true, List, [], ◌≡◌, eqb, ltb, Option, Some, None}
 use Rattle.std.proofs.Math.Bool.{false}
 use Rattle.std.proofs.Math.Path.{refl, ap}
 use Rattle.std.proofs.Common.{sym, ◌∙◌, arith}
@@ -10,8 +10,6 @@ use Rattle.rules.specs.declared.parts.Kind.TheVariants.{Fm, Ufm}
 use Rattle.rules.specs.declared.parts.Straps.{Straps}
 use Rattle.rules.specs.declared.state.Phase.{Phase}
 use Rattle.rules.specs.declared.registers.Command.{Command}
-use Rattle.rules.specs.declared.registers.Place.{Place}
-use Rattle.rules.specs.declared.registers.Place.TheVariants.{Here, Elsewhere}
 use Rattle.rules.specs.declared.registers.Register.{Register}
 use Rattle.rules.specs.declared.registers.Register.TheVariants.{Status, Control, Chstatus, Intmsk, Slatable, Tranconfig, Data, Transel, Tranofs, Bytecount, Setting, Preset}
 use Rattle.rules.specs.Access.{preset_of, resets_of}
@@ -255,15 +253,15 @@ put_out n c m reg v =
     either (Out n (mask_of c) false) (resets_of (preset_of reg) v c.head.key) (out_same n (mask_of c) _ _) (write_of_lem n (keyed c reg v) m reg v)
 
 module _ (n : ℕ) (c : Channel) (m : List ℕ) where
-  write_at_lem : (p : Place) (v : ℕ) → Out n (mask_of c) false (write_at c m p v) (write_at (remasked n c) m p v)
+  write_at_lem : (p : Option Register) (v : ℕ) → Out n (mask_of c) false (write_at c m p v) (write_at (remasked n c) m p v)
   unfolding write_at
-  write_at_lem (Here reg) v = put_out n c m reg v
-  write_at_lem Elsewhere v = out_of n (mask_of c) _ _ _ refl refl refl
+  write_at_lem (Some reg) v = put_out n c m reg v
+  write_at_lem None v = out_of n (mask_of c) _ _ _ refl refl refl
 
-  read_at_lem : (p : Place) → Out n (mask_of c) (mask_at p) (read_at c m p) (read_at (remasked n c) m p)
+  read_at_lem : (p : Option Register) → Out n (mask_of c) (mask_at p) (read_at c m p) (read_at (remasked n c) m p)
   unfolding read_at read_of
-  read_at_lem (Here reg) = guarded_out n c _ _ m _ _ (read_out n c m reg)
-  read_at_lem Elsewhere = out_of n (mask_of c) _ _ _ refl refl refl
+  read_at_lem (Some reg) = guarded_out n c _ _ m _ _ (read_out n c m reg)
+  read_at_lem None = out_of n (mask_of c) _ _ _ refl refl refl
 
   module _ (ufm : kind_of c.head ≡ Ufm) (low : bit_of n femsk ≡ femsk_of c.head) where
     turn_out : (e : Event) → Out n (mask_of c) false (turned c m (turn_at c.head e)) (turned (remasked n c) m (turn_at c.head e))

@@ -11,7 +11,7 @@ use Rattle.rules.specs.declared.parts.Kind.TheVariants.{Fm}
 use Rattle.rules.specs.Parts.{strapped, other_kind}
 use Rattle.rules.specs.Access.{key_after, resets_of}
 use Rattle.bounds.proofs.Laws.Range.{of_kinds}
-use Rattle.interrupt.specs.Interrupt.{ctrl_kept, mask_in}
+use Rattle.interrupt.specs.Interrupt.{be_after, ctrl_kept, mask_in}
 use Rattle.rules.specs.declared.wires.Edge.{Edge}
 use Rattle.steps.specs.declared.map.Op.{Op}
 use Rattle.steps.specs.declared.map.Ctrl.{Ctrl}
@@ -33,11 +33,9 @@ use Rattle.channel.specs.Facts.{Accepted}
 use Rattle.channel.proofs.Laws.Kept.{serves_in_range, fresh-in_range, served_length}
 use Rattle.channel.proofs.Laws.Frames.{trigger_in_range}
 use Rattle.channel.proofs.Laws.Straps.{served_keeps, triggered_keeps}
-use Rattle.heads.specs.declared.Common.{Common}
-use Rattle.heads.specs.Heads.{common_after}
 use Rattle.part.specs.declared.state.Part.{Part}
 use Rattle.part.specs.declared.state.PartStepped.{PartStepped}
-use Rattle.part.specs.State.{chan, fresh_part, device_of, wiped, window, with_key, common_of, keyless, forgotten}
+use Rattle.part.specs.State.{chan, fresh_part, device_of, wiped, window, with_key, keyless, forgotten}
 use Rattle.part.specs.Registers.{ctrl_read, ctrl_written, ctrl_put, ctrl_store}
 use Rattle.part.specs.Step.{edge_channel, one_after, all_served, all_stored, one_served, one_step, one_bytes, trigger_step, target_served, target_stored, forgetting, part_served, part_stored, channels_in, own_kinds, part_in, accepts, part_step, part_bytes}
 use Rattle.part.proofs.Laws.Chosen.{SameStraps, set_related, map_related, kinds_kept, forgotten_keeps}
@@ -85,11 +83,11 @@ pub chan_accepted : (p : Part) (m : List ℕ) (c : ℕ) → c < 3 → Whole p m 
 chan_accepted p m c h w = record { ranged = chan-in_range p c w.ranged; whole = length-window c m (fits c m h w.whole) }
 
 -- a channel in range of which the same was chosen, in the place of channel c
-pub put_in_range : (p : Part) (c : ℕ) (x : Channel) (k : Common) → part_in p ≡ true → in_range x ≡ true → x.head.straps ≡ (chan p c).head.straps → k.mask ≡ p.mask
-    → part_in (one_after p c x k) ≡ true
-put_in_range p c x k e r s m =
+pub put_in_range : (p : Part) (c : ℕ) (x : Channel) (be : Bool) → part_in p ≡ true → in_range x ≡ true → x.head.straps ≡ (chan p c).head.straps
+    → part_in (one_after p c x be) ≡ true
+put_in_range p c x be e r s =
     let h = in_of p e in
-    of_in _ (set_in p.channels c x h.0 r, rw m h.1, kinds_kept p (one_after p c x k) (set_related SameStraps (λ _. refl) p.channels c x s) h.2)
+    of_in _ (set_in p.channels c x h.0 r, h.1, kinds_kept p (one_after p c x be) (set_related SameStraps (λ _. refl) p.channels c x s) h.2)
 
 module _ (p : Part) (h : In p) where
   one_in : (m : List ℕ) (c : ℕ) (op : Op) → length m ≡ memory_size → c < 3 → Good (one_step p m c op)
@@ -98,8 +96,8 @@ module _ (p : Part) (h : In p) where
       let a = chan_accepted p m c q (record { ranged = of_in p h; whole = whole }) in
       let r = (one_served p m c op).stepped in
       in_of _
-      (put_in_range p c r.channel (common_after (common_of p) r.answer) (of_in p h) (serves_in_range (chan p c) (window c m) c op a)
-      (served_keeps (chan p c) (window c m) c op).straps refl)
+      (put_in_range p c r.channel (be_after p.be r.answer.number) (of_in p h) (serves_in_range (chan p c) (window c m) c op a)
+      (served_keeps (chan p c) (window c m) c op).straps)
 
   trigger_in : (edge : Edge) → Good (trigger_step p edge)
   unfolding Good trigger_step

@@ -1,9 +1,7 @@
 -- What an access that is not refused may rely on.
-use Rattle.std.specs.Prelude.{Bool, true, false, List, ◌≡◌, refl, ℕ, ◌<◌, ◌≤◌, ltb}
+use Rattle.std.specs.Prelude.{Bool, true, false, List, Option, Some, None, ◌≡◌, refl, ℕ, ◌<◌, ◌≤◌, ltb}
 use Rattle.std.proofs.Common.{sym, ◌∙◌, arith, ltb-true, ltb-false, lt-ltb, le-ltb}
 use Rattle.laws.specs.Cases.{not_refused, accepted, pick_true, pick-false, pick_holds}
-use Rattle.rules.specs.declared.access.Spot.{Spot}
-use Rattle.rules.specs.declared.access.Spot.TheVariants.{At, Outside}
 use Rattle.rules.specs.declared.state.Phase.{Phase}
 use Rattle.rules.specs.Numbers.{buffer_size, done, locked, past_table, past_buffer, many_transactions}
 use Rattle.rules.specs.Registers.{active_of}
@@ -43,40 +41,40 @@ unfolding spot_of configured_at
 found lens at =
     pick_holds (Configured lens) _ (λ t. pick_holds (Configured lens) _ (λ u. (ltb-true at buffer_size t, ltb-true at (sum_of lens) u)) (λ _. tt)) (λ _. tt)
 
-finds : (lens : List ℕ) (at : ℕ) (s : Spot) → s ≡ spot_of lens at → (s ≡ spot_of lens at) × Configured lens s
+finds : (lens : List ℕ) (at : ℕ) (s : Option ℕ) → s ≡ spot_of lens at → (s ≡ spot_of lens at) × Configured lens s
 finds lens at s e = (e, rw e (found lens at))
 
 -- the finder's three ways
-pub past_all : (lens : List ℕ) (at : ℕ) → buffer_size ≤ at → (Outside ≡ spot_of lens at) × Configured lens Outside
+pub past_all : (lens : List ℕ) (at : ℕ) → buffer_size ≤ at → (None ≡ spot_of lens at) × Configured lens None
 unfolding spot_of
-past_all lens at h = finds lens at Outside (pick-false _ _ _ _ (le-ltb at buffer_size h) refl)
+past_all lens at h = finds lens at None (pick-false _ _ _ _ (le-ltb at buffer_size h) refl)
 
-pub is_place : (lens : List ℕ) (at : ℕ) (b : Bool) → at < buffer_size → b ≡ configured_at lens at → b ≡ true → (At at ≡ spot_of lens at) × Configured lens (At at)
+pub is_place : (lens : List ℕ) (at : ℕ) (b : Bool) → at < buffer_size → b ≡ configured_at lens at → b ≡ true → (Some at ≡ spot_of lens at) × Configured lens (Some at)
 unfolding spot_of
-is_place lens at b h e t = finds lens at (At at) (pick_true _ _ _ _ (lt-ltb at buffer_size h) (pick_true _ _ _ _ (sym e ∙ t) refl))
+is_place lens at b h e t = finds lens at (Some at) (pick_true _ _ _ _ (lt-ltb at buffer_size h) (pick_true _ _ _ _ (sym e ∙ t) refl))
 
-pub no_place : (lens : List ℕ) (at : ℕ) (b : Bool) → at < buffer_size → b ≡ configured_at lens at → b ≡ false → (Outside ≡ spot_of lens at) × Configured lens Outside
+pub no_place : (lens : List ℕ) (at : ℕ) (b : Bool) → at < buffer_size → b ≡ configured_at lens at → b ≡ false → (None ≡ spot_of lens at) × Configured lens None
 unfolding spot_of
-no_place lens at b h e t = finds lens at Outside (pick_true _ _ _ _ (lt-ltb at buffer_size h) (pick-false _ _ _ _ (sym e ∙ t) refl))
+no_place lens at b h e t = finds lens at None (pick_true _ _ _ _ (lt-ltb at buffer_size h) (pick-false _ _ _ _ (sym e ∙ t) refl))
 
 -- a place that is not refused is the one that was asked for
-found_at : (lens : List ℕ) (at : ℕ) → spot_refusal (spot_of lens at) ≡ 0 → spot_of lens at ≡ At at
+found_at : (lens : List ℕ) (at : ℕ) → spot_refusal (spot_of lens at) ≡ 0 → spot_of lens at ≡ Some at
 unfolding spot_of
 found_at lens at e =
-    pick_holds (λ (s : Spot). spot_refusal s ≡ 0 → s ≡ At at) (ltb at buffer_size)
-    (λ _. pick_holds (λ (s : Spot). spot_refusal s ≡ 0 → s ≡ At at) (configured_at lens at) (λ _ _. refl) (λ _ q. absurd (omega arith)))
+    pick_holds (λ (s : Option ℕ). spot_refusal s ≡ 0 → s ≡ Some at) (ltb at buffer_size)
+    (λ _. pick_holds (λ (s : Option ℕ). spot_refusal s ≡ 0 → s ≡ Some at) (configured_at lens at) (λ _ _. refl) (λ _ q. absurd (omega arith)))
     (λ _ q. absurd (omega arith))
     e
 
-pub spot_open : (lens : List ℕ) (at : ℕ) → spot_refusal (spot_of lens at) ≡ 0 → Configured lens (At at)
+pub spot_open : (lens : List ℕ) (at : ℕ) → spot_refusal (spot_of lens at) ≡ 0 → Configured lens (Some at)
 spot_open lens at e = rw (found_at lens at e) at (found lens at)
 
-data_both : (p : Phase) (s : Spot) → data_refusal p s ≡ 0 → (active_of p ≡ false) × (spot_refusal s ≡ 0)
+data_both : (p : Phase) (s : Option ℕ) → data_refusal p s ≡ 0 → (active_of p ≡ false) × (spot_refusal s ≡ 0)
 unfolding data_refusal
 data_both p s e = not_refused (active_of p) locked _ (omega arith) e
 
-pub data_unlocked : (p : Phase) (s : Spot) → data_refusal p s ≡ 0 → active_of p ≡ false
+pub data_unlocked : (p : Phase) (s : Option ℕ) → data_refusal p s ≡ 0 → active_of p ≡ false
 data_unlocked p s e = (data_both p s e).0
 
-pub data_open : (p : Phase) (lens : List ℕ) (at : ℕ) → data_refusal p (spot_of lens at) ≡ 0 → Configured lens (At at)
+pub data_open : (p : Phase) (lens : List ℕ) (at : ℕ) → data_refusal p (spot_of lens at) ≡ 0 → Configured lens (Some at)
 data_open p lens at e = spot_open lens at (data_both p _ e).1

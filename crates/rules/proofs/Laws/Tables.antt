@@ -1,7 +1,11 @@
 -- The laws of the tables' definitions, one for each way that a loop goes on or ends; and what a frame that fits says of a place.
-use Rattle.std.specs.Prelude.{Bool, true, false, not, List, ◌≡◌, refl, ℕ, zero, suc, ◌+◌, ◌-◌, ◌<◌, ◌≤◌, eqb, leb, get_or, set}
-use Rattle.std.proofs.Common.{sym, ◌∙◌, add-one, add-zero, add-suc, arith, rules, eqb-true, le-leb, lt-ltb, le-ltb}
+use Rattle.std.specs.Prelude.{Bool, true, false, not, List, ◌≡◌, refl, ℕ, zero, suc, ◌+◌, ◌-◌, ◌<◌, ◌≤◌, eqb, leb, get_or, set, length, replicate}
+use Rattle.std.proofs.Common.{sym, ◌∙◌, add-one, add-zero, add-suc, arith, eqb-true, le-leb, lt-ltb, le-ltb}
 use Rattle.std.proofs.lemmas.Bool.{not-false, not-true, eqb-false, lt-leb}
+use Rattle.std.proofs.lemmas.List.{length-replicate, take_all}
+use Rattle.std.proofs.lemmas.List.Edits.{sets, sets-eq, length-between, get_or-between}
+use Rattle.std.proofs.lemmas.Slice.{put_mid-paste}
+use borrow.Rule.Slice.PartMut.{put_mid, mid_of}
 use Rattle.laws.specs.Pick.{when◌then◌else◌}
 use Rattle.laws.specs.Cases.{left-more, left_none, pick_holds}
 use Rattle.rules.specs.declared.parts.Kind.{Kind}
@@ -19,10 +23,16 @@ pub start-more : (l : List ℕ) (i s x : ℕ) → s ≡ start_of l i → x ≡ g
 unfolding start_of
 start-more l i s x p q = rw (p, q, add-one)
 
-pub start_end : (l : List ℕ) (i v s : ℕ) → s ≡ start_of l i → i ≤ v → v ≤ i → s ≡ start_of l v
-start_end l i v s p h k = let e : i ≡ v = omega arith in cc
+-- ---- the lengths 1 to v, looked at one after the other
+module _ (l : List ℕ) (v : ℕ) (h : v < length l) where
+  pub range_length : length (mid_of 1 (v + 1 - 1) l) ≡ v
+  range_length = let e = length-between l 1 (v + 1) (omega arith) in omega (arith, e)
 
-pub ruleset starts = (start_none, start-more, start_end, rules)
+  pub range_below : (i : ℕ) → i < length (mid_of 1 (v + 1 - 1) l) → i < v
+  range_below i k = let e = range_length in omega (arith, e)
+
+  pub range_at : (i x : ℕ) → i < v → x ≡ get_or (mid_of 1 (v + 1 - 1) l) i 0 → x ≡ get_or l (i + 1) 0
+  range_at i x k e = let p : i + 1 ≡ 1 + i = omega arith in rw p (e ∙ get_or-between l 1 (v + 1) i 0 (omega arith))
 
 -- ---- a read up to a length, which is a byte
 none_longer : (n : ℕ) → leb n 0 ≡ eqb n 0
@@ -54,18 +64,20 @@ pub sent-more : (c : Kind) (s l : List ℕ) (i n r : ℕ) (b : Bool) → first_s
 unfolding sent_from when◌then◌else◌
 sent-more c s l i n r b e h p t = rw (left-more n i h, ← p, not-false b t) at e
 
-pub ruleset sents = (sent_end, sent-found, sent-more, rules)
-
--- ---- marked
-pub mark_end : (s t : List ℕ) (i n : ℕ) → marked s i n ≡ t → n ≤ i → s ≡ t
+-- ---- marked: what is put in the place of a part of the list
+marked_sets : (s : List ℕ) (i left : ℕ) → mark_from s i left ≡ sets s i (replicate left done_status)
 unfolding mark_from
-mark_end s t i n e h = rw (left_none n i h) at e
+marked_sets s i zero = refl
+marked_sets s i (suc left) = rw add-one (marked_sets (set s i done_status) (suc i) left)
 
-pub mark_more : (s t : List ℕ) (i n : ℕ) → marked s i n ≡ t → i < n → marked (set s i done_status) (i + 1) n ≡ t
-unfolding mark_from
-mark_more s t i n e h = rw (left-more n i h) at e
-
-pub ruleset marks = (mark_end, mark_more, rules)
+pub marked_part : (s part : List ℕ) (from to : ℕ) → from ≤ to → to ≤ length s → part ≡ replicate (length (mid_of from (to - from) s)) done_status
+    → put_mid from (to - from) s part ≡ marked s from to
+marked_part s part from to h g e =
+    let n = length-replicate (to - from) done_status in
+    let all = take_all (to - from) (replicate (to - from) done_status) (rw n (omega arith)) in
+    let put = sets-eq (replicate (to - from) done_status) s from (rw n (omega arith)) in
+    put_mid-paste from (to - from) s part _ (to - from) (rw (length-between s from to g) at e) refl (sym n)
+    ∙ rw all (sym (marked_sets s from (to - from) ∙ (rw n at put)))
 
 -- ---- start_of grows: a byte of a transaction of a frame that fits is one of the buffer
 start_add : (l : List ℕ) (i k : ℕ) → start_of l i ≤ start_of l (i + k)

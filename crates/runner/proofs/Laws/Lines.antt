@@ -1,6 +1,6 @@
 -- Where a line ends, and that one which came in pieces is read as the whole line is.
-use Rattle.std.specs.Prelude.{ℕ, ◌+◌, ◌-◌, ◌<◌, ◌≤◌, Bool, true, false, List, [], ◌∷◌, ◌++◌, ◌≡◌, refl, eqb, leb, ltb, length, get_or, take, drop, set}
-use Rattle.std.proofs.Common.{append-nil, append_assoc, sym, ◌∙◌, subst, eq-eqb, ne_eqb, ltb-true, ltb-false, leb-true, leb-false, length-append, length-take, length-set, drop_of_length-le, drop-cons, drop-drop, length-take-le, take_all, take-suc-set}
+use Rattle.std.specs.Prelude.{ℕ, ◌+◌, ◌-◌, ◌<◌, ◌≤◌, Bool, true, false, List, [], ◌∷◌, ◌++◌, ◌≡◌, refl, eqb, leb, ltb, length, min, take, drop, set, cond, Option, Some, None}
+use Rattle.std.proofs.Common.{append-nil, append_assoc, sym, ◌∙◌, subst, ltb-true, ltb-false, leb-true, leb-false, length-append, length-take, length-set, drop-drop, length-take-le, take_all, take-suc-set}
 use Rattle.std.proofs.Math.Path.{ap}
 use Rattle.std.proofs.Math.Numerals.{add-one}
 use native.Mathlib.Omega.{arith}
@@ -8,6 +8,8 @@ use Rattle.std.proofs.Math.ListN.{length-drop}
 use Rattle.std.proofs.lemmas.List.{length-replicate, take-append-le}
 use Rattle.std.proofs.lemmas.List.Edits.{sets, sets-eq}
 use Rattle.std.proofs.Math.Seq.{drop-append_seam, take-append-add, take-append_seam, take-nil}
+use Rattle.std.specs.List.{position_or_len}
+use Rattle.std.proofs.lemmas.List.Recursion.{is_position_or_len}
 use Rattle.laws.specs.Pick.{when◌then◌else◌}
 use Rattle.laws.specs.Cases.{pick_holds}
 use Rattle.script.specs.Grammar.{line_room, line_of}
@@ -29,26 +31,31 @@ module _ (block : List ℕ) (from : ℕ) where
   unfolding line_end
   end_in h = let k = first_lf_in (drop from block) in let n = length-drop from block in omega (arith, h, k, n)
 
-  pub end_last : length block ≤ from → line_end block from ≡ from
-  unfolding line_end
-  end_last h = let e : first_lf (drop from block) ≡ 0 = ap first_lf (drop_of_length-le block h) in omega (arith, e)
+-- an LF that `position` finds is the first, and where it finds none the bytes have none
+first_is : (l : List ℕ) → first_lf l ≡ position_or_len (λ (b : ℕ). eqb b 10) l
+unfolding when◌then◌else◌
+first_is = is_position_or_len first_lf (λ (b : ℕ). eqb b 10) refl (λ x l. cases (eqb x 10) (first_lf l))
+  where
+    cases : (t : Bool) (n : ℕ) → (when t then 0 else n + 1) ≡ cond t 0 (1 + n)
+    cases true n = refl
+    cases false n = omega arith
 
--- a place of the block in a line that starts at another
-module _ (block : List ℕ) (from at : ℕ) (inside : at < length block) (same : line_end block from ≡ line_end block at) where
-  -- an LF ends the line
-  pub ends_here : get_or block at 0 ≡ 10 → at ≡ line_end block from
-  unfolding line_end when◌then◌else◌
-  ends_here t =
-      let e : first_lf (drop at block) ≡ 0 = ap first_lf (drop-cons block at 0 inside) ∙ rw (eq-eqb _ _ t) in
-      omega (arith, e, same)
+module _ (l : List ℕ) (r : Option ℕ)
+    (e : r ≡ cond (ltb (position_or_len (λ (b : ℕ). eqb b 10) l) (length l)) (Some (position_or_len (λ (b : ℕ). eqb b 10) l)) None) where
+  pub lf_found : (n : ℕ) → r ≡ Some n → n ≡ first_lf l
+  lf_found n f = cases (ltb (position_or_len (λ (b : ℕ). eqb b 10) l) (length l)) (sym f ∙ e)
+    where
+      cases : (t : Bool) → Some n ≡ cond t (Some (position_or_len (λ (b : ℕ). eqb b 10) l)) None → n ≡ first_lf l
+      cases true g = let i = first_is l in cc
+      cases false g = cc
 
-  -- after any other byte it goes on
-  pub goes_on : (get_or block at 0 ≡ 10 → ⊥) → (next : ℕ) → next ≡ at + 1 → line_end block from ≡ line_end block next
-  unfolding line_end when◌then◌else◌
-  goes_on t next e =
-      let n = add-one at in
-      let k : first_lf (drop at block) ≡ first_lf (drop next block) + 1 = ap first_lf (drop-cons block at 0 inside) ∙ rw (ne_eqb _ _ t, e, n) in
-      omega (arith, k, e, same)
+  pub no_lf : r ≡ None → first_lf l ≡ length l
+  no_lf f = cases (ltb (position_or_len (λ (b : ℕ). eqb b 10) l) (length l)) refl (sym f ∙ e)
+    where
+      cases : (t : Bool) → ltb (position_or_len (λ (b : ℕ). eqb b 10) l) (length l) ≡ t → None ≡ cond t (Some (position_or_len (λ (b : ℕ). eqb b 10) l)) None
+          → first_lf l ≡ length l
+      cases true q g = cc
+      cases false q g = let h = ltb-false _ _ q in let i = first_is l in let k = first_lf_in l in omega (arith, h, i, k)
 
 -- ---- bytes that are put somewhere, and those that follow them
 behind_put : (k l : List ℕ) (a : ℕ) → a + length k ≤ length l → drop a (sets l a k) ≡ k ++ drop (a + length k) l
@@ -136,6 +143,10 @@ keeps_more s l (b ∷ rest) k = subst (Keeps (lengthened s (b ∷ rest))) (appen
 pub kept_few : (n : ℕ) → n ≤ line_room → kept_of n ≡ n
 unfolding kept_of
 kept_few n h = pick_holds (λ (x : ℕ). x ≡ n) (ltb n line_room) (λ _. refl) (λ t. let g = ltb-false n line_room t in omega arith)
+
+pub kept_min : (n : ℕ) → min n line_room ≡ kept_of n
+unfolding kept_of
+kept_min n = pick_holds (λ (x : ℕ). min n line_room ≡ x) (ltb n line_room) (λ t. let h = ltb-true n line_room t in omega arith) (λ t. let h = ltb-false n line_room t in omega arith)
 
 -- of a line's first bytes and what follows, the first are those of the line
 first_and : (a b : List ℕ) (w : Bool) → leb line_room (length a) ≡ w → take line_room (take line_room a ++ b) ≡ take line_room (a ++ b)

@@ -1,8 +1,8 @@
 -- The input may come in any pieces: where a script stands, and what it says, is the same.
-use Rattle.std.specs.Prelude.{ℕ, Bool, true, false, List, [], ◌∷◌, ◌++◌, ◌≡◌, refl, eqb}
+use Rattle.std.specs.Prelude.{ℕ, Bool, true, false, List, [], ◌∷◌, ◌++◌, ◌≡◌, refl, eqb, Option}
 use Rattle.std.proofs.Common.{append_assoc, append-nil, sym, ◌∙◌, ap}
 use Rattle.script.specs.Grammar.{line_of}
-use Rattle.script.specs.declared.reading.Line.{Line}
+use Rattle.steps.specs.declared.map.Step.{Step}
 use Rattle.answers.specs.Answer.{header}
 use Rattle.runner.specs.Run.{after_line}
 use Rattle.laws.specs.Pick.{when◌then◌else◌}
@@ -92,5 +92,5 @@ same_after d k l (b ∷ rest) h = cases (eqb b 10) refl (same_after d (k ++ (b �
   where
     cases : (t : Bool) → eqb b 10 ≡ t → after_all d (ended_lines (k ++ (b ∷ [])) rest) ≡ after_all d (ended_lines (l ++ (b ∷ [])) rest)
         → after_all d (ended_lines k (b ∷ rest)) ≡ after_all d (ended_lines l (b ∷ rest))
-    cases true e i = rw e (ap (λ (t : Line). after_all (record { state = after_line d.state t; step = number_after d.step }) (ended_lines [] rest)) (alike_line k l h))
+    cases true e i = rw e (ap (λ (t : Option Step). after_all (record { state = after_line d.state t; step = number_after d.step }) (ended_lines [] rest)) (alike_line k l h))
     cases false e i = rw e i

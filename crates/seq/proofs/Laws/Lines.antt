@@ -1,22 +1,35 @@
 -- The lines of a text, one by one.
-use Rattle.std.specs.Prelude.{ℕ, ◌+◌, ◌-◌, ◌<◌, ◌≤◌, Bool, true, false, List, [], ◌∷◌, ◌≡◌, refl, ltb, length, take, drop}
-use Rattle.std.proofs.Common.{sym, ◌∙◌, arith, ltb-true, ltb-false, length-drop, drop_of_length-le, drop-drop, take_all}
+use Rattle.std.specs.Prelude.{ℕ, ◌+◌, ◌-◌, ◌<◌, ◌≤◌, Bool, true, false, List, [], ◌∷◌, ◌≡◌, refl, ltb, eqb, length, take, drop, Option}
+use Rattle.std.proofs.Common.{sym, ◌∙◌, arith, ltb-true, ltb-false, length-drop, drop_of_length-le, drop-drop, take_all, ne_eqb}
 use Rattle.std.proofs.Math.Path.{ap}
 use Rattle.std.proofs.Math.Nat.{add-sub_cancel_left}
+use Rattle.laws.specs.Cases.{pick-false}
+use Rattle.rules.specs.Numbers.{done}
 use Rattle.rules.specs.declared.parts.Device.TheVariants.{Pca9663}
 use Rattle.part.specs.declared.state.Part.{Part}
 use Rattle.part.specs.State.{fresh_part}
 use Rattle.steps.specs.declared.answer.PartAnswer.{PartAnswer}
 use Rattle.mixes.specs.Mix.{ends}
 use Rattle.independent.specs.Statement.{State}
-use Rattle.script.specs.declared.reading.Line.{Line}
+use Rattle.steps.specs.declared.map.Step.{Step}
 use Rattle.script.specs.Grammar.{line_of}
 use Rattle.runner.specs.Run.{start, the_script, line_answer, after_line}
 use Rattle.runner.specs.Lines.{first_lf, line_end}
 use Rattle.runner.specs.Text.{ended_lines, rest_of, last_line, lines_of}
 use Rattle.runner.proofs.Laws.Feeding.{next_line, next_rest, no_line-ends, all_rest}
+use Rattle.seq.specs.declared.lines.Refused.{Refused}
 use Rattle.seq.specs.declared.lines.Tally.{Tally}
-use Rattle.seq.specs.Lines.{none_yet, counted, tallied, Runs}
+use Rattle.seq.specs.Lines.{none_yet, first_of, counted, tallied, Runs}
+
+-- ---- a refused line counts
+pub counted_refused : (t : Tally) (n : ℕ) (f : Option Refused) → (n ≡ done → ⊥) → f ≡ first_of t n
+    → record { lines = t.lines + 1; refused = t.refused + 1; first = f } ≡ counted t n
+unfolding counted
+counted_refused t n f d e =
+    let a : Tally = record { lines = t.lines + 1; refused = t.refused; first = t.first } in
+    let b : Tally = record { lines = t.lines + 1; refused = t.refused + 1; first = first_of t n } in
+    pick-false (eqb n done) (record { lines = t.lines + 1; refused = t.refused + 1; first = f }) a b (ne_eqb n done d)
+    (ap (λ (x : Option Refused). record { lines = t.lines + 1; refused = t.refused + 1; first = x }) e)
 
 -- ---- the next line: up to the first LF, or to the end
 last_line_lem : (l : List ℕ) → 0 < length l → last_line l ≡ l ∷ []
@@ -57,7 +70,7 @@ pub record Going (text : List ℕ) (s₀ : State) (t₀ : Tally) (p : Part) (m :
   pub fewer : t.refused ≤ t.lines
 
 module _ (text : List ℕ) (s₀ : State) (t₀ : Tally) (p : Part) (m : List ℕ) (t : Tally) (from : ℕ) (g : Going text s₀ t₀ p m t from) where
-  pub going_on_lem : (end : ℕ) (line : Line) (p' : Part) (a : PartAnswer) (m' : List ℕ) (t' : Tally) → from < length text → end ≡ line_end text from
+  pub going_on_lem : (end : ℕ) (line : Option Step) (p' : Part) (a : PartAnswer) (m' : List ℕ) (t' : Tally) → from < length text → end ≡ line_end text from
       → line ≡ line_of (take (end - from) (drop from text)) → start p' m' ≡ after_line (start p m) line → a ≡ line_answer (start p m) line
       → t' ≡ counted t a.number → t'.lines ≡ t.lines + 1 → t'.refused ≤ t'.lines → from ≤ end → Going text s₀ t₀ p' m' t' (end + 1)
   unfolding tallied
@@ -68,12 +81,12 @@ module _ (text : List ℕ) (s₀ : State) (t₀ : Tally) (p : Part) (m : List �
         state =
             g.state
             ∙ ap (ends the_script (start p m)) next
-            ∙ ap (λ (x : Line). ends the_script (after_line (start p m) x) rest) (sym read)
+            ∙ ap (λ (x : Option Step). ends the_script (after_line (start p m) x) rest) (sym read)
             ∙ ap (λ (x : State). ends the_script x rest) (sym after);
         tally =
             g.tally
             ∙ ap (tallied (start p m) t) next
-            ∙ ap (λ (x : Line). tallied (after_line (start p m) x) (counted t (line_answer (start p m) x).number) rest) (sym read)
+            ∙ ap (λ (x : Option Step). tallied (after_line (start p m) x) (counted t (line_answer (start p m) x).number) rest) (sym read)
             ∙ ap (λ (x : State). tallied x (counted t (line_answer (start p m) line).number) rest) (sym after)
             ∙ ap (λ (x : PartAnswer). tallied (start p' m') (counted t x.number) rest) (sym said)
             ∙ ap (λ (x : Tally). tallied (start p' m') x rest) (sym count);

@@ -1,5 +1,5 @@
 -- A line of a write is read as that write, and texts of writes put one after the other.
-use Rattle.std.specs.Prelude.{ℕ, zero, suc, ◌+◌, ◌*◌, ◌-◌, ◌/◌, ◌%◌, ◌<◌, ◌≤◌, Bool, List, [], ◌∷◌, ◌++◌, ◌≡◌, length, get_or, take, drop}
+use Rattle.std.specs.Prelude.{ℕ, zero, suc, ◌+◌, ◌*◌, ◌-◌, ◌/◌, ◌%◌, ◌<◌, ◌≤◌, Bool, List, [], ◌∷◌, ◌++◌, ◌≡◌, length, get_or, take, drop, Option, Some}
 use Rattle.std.proofs.Math.Bool.{true, false}
 use Rattle.std.proofs.Common.{append_assoc, sym, ◌∙◌, ap, add-one, arith, rules, length-drop, length-take, drop_of_length-le, drop-cons, drop-drop, take_all}
 use Rattle.std.proofs.Math.Path.{refl}
@@ -10,14 +10,13 @@ use Rattle.laws.specs.Pick.{when◌then◌else◌}
 use Rattle.laws.specs.Lists.{All}
 use Rattle.laws.specs.Sets.{sets_append}
 use Rattle.rules.specs.Numbers.{buffer_size}
+use Rattle.steps.specs.declared.map.Step.{Step}
 use Rattle.steps.specs.declared.map.Step.TheVariants.{Write}
 use Rattle.mixes.specs.Mix.{ends}
 use Rattle.independent.specs.Statement.{State, the_part}
 use Rattle.letters.specs.Letters.{digit_of}
 use Rattle.answers.specs.Answer.{Put}
 use Rattle.script.specs.Grammar.{is_hex, hex_of, suiting, in_form, line_of}
-use Rattle.script.specs.declared.reading.Line.{Line}
-use Rattle.script.specs.declared.reading.Line.TheVariants.{Readable as Reads}
 use Rattle.runner.specs.Run.{the_script, after_line}
 use Rattle.runner.specs.Text.{ended_lines, rest_of, lines_of}
 use Rattle.files.specs.File.{count_in, addresses_in, lengths_in, data_in, Readable}
@@ -58,7 +57,7 @@ module _ (d : ℕ) (h : d < 16) where
 byte_read : (x : ℕ) → x < 256 → 16 * hex_of (digit_of (x / 16)) + hex_of (digit_of (x % 16)) ≡ x
 byte_read x h = rw (digit_read (x / 16) (omega arith), digit_read (x % 16) (omega arith)) (omega arith)
 
-pub read_write : (w : Typed) → Small w → line_of (line_for w) ≡ Reads (Write w.at w.value)
+pub read_write : (w : Typed) → Small w → line_of (line_for w) ≡ Some (Write w.at w.value)
 unfolding line_of in_form suiting when◌then◌else◌
 read_write w (h, k) =
     rw (
@@ -86,8 +85,8 @@ unfolding script_of ended_lines rest_of
 script_does s [] h = refl
 script_does s (w ∷ l) (h, k) =
     ap (ends the_script s) (script_next w (script_of l) h)
-    ∙ ap (λ (x : Line). ends the_script (after_line s x) (lines_of (script_of l))) (read_write w h)
-    ∙ script_does (after_line s (Reads (Write w.at w.value))) l k
+    ∙ ap (λ (x : Option Step). ends the_script (after_line s x) (lines_of (script_of l))) (read_write w h)
+    ∙ script_does (after_line s (Some (Write w.at w.value))) l k
 
 -- ---- texts of writes, put one after the other
 pub script_append : (k l : List Typed) → script_of (k ++ l) ≡ script_of k ++ script_of l

@@ -1,13 +1,11 @@
 -- What a channel's step makes of its key: of the steps of the wires and the accesses only a write to PRESET looks at it, and reads and events leave it.
-use Rattle.std.specs.Prelude.{ℕ, Bool, true, false, List, ◌≡◌, eqb, ltb}
+use Rattle.std.specs.Prelude.{ℕ, Bool, true, false, List, ◌≡◌, eqb, ltb, Option, Some, None}
 use Rattle.std.proofs.Math.Path.{refl, ap}
 use Rattle.std.proofs.Common.{sym, arith}
 use Rattle.laws.specs.Pick.{when◌then◌else◌}
 use Rattle.laws.specs.Cases.{false_not_true}
 use Rattle.rules.specs.declared.registers.Register.{Register}
 use Rattle.rules.specs.declared.registers.Register.TheVariants.{Status, Control, Chstatus, Intmsk, Slatable, Tranconfig, Data, Transel, Tranofs, Bytecount, Setting, Preset}
-use Rattle.rules.specs.declared.registers.Place.{Place}
-use Rattle.rules.specs.declared.registers.Place.TheVariants.{Here, Elsewhere}
 use Rattle.rules.specs.declared.wires.Edge.{Edge}
 use Rattle.rules.specs.declared.wires.Event.{Event}
 use Rattle.rules.specs.Access.{preset_of, key_after, resets_of}
@@ -224,10 +222,10 @@ module _ (k : Bool) where
   unfolding write_of
   write-keyed c m reg v = rw (written-keyed c m reg v, refusal-keyed c reg v) (guarded-keyed _ c m _)
 
-  read_at-keyed : (c : Channel) (m : List ℕ) (p : Place) → read_at (rekeyed k c) m p ≡ served_with k (read_at c m p)
+  read_at-keyed : (c : Channel) (m : List ℕ) (p : Option Register) → read_at (rekeyed k c) m p ≡ served_with k (read_at c m p)
   unfolding read_at read_of
-  read_at-keyed c m (Here reg) = rw (read_by-keyed c m reg) (guarded-keyed _ c m _)
-  read_at-keyed c m Elsewhere = refl
+  read_at-keyed c m (Some reg) = rw (read_by-keyed c m reg) (guarded-keyed _ c m _)
+  read_at-keyed c m None = refl
 
   event_keyed : (c : Channel) (m : List ℕ) (number : ℕ) (e : Event) → event_at (rekeyed k c) m number e ≡ served_with k (event_at c m number e)
   unfolding event_at
@@ -266,10 +264,10 @@ put-keyless : (c : Channel) (m : List ℕ) (reg : Register) (v : ℕ) → preset
 unfolding put_of when◌then◌else◌
 put-keyless c m reg v q = rw (q, not_reset v c.head.key, not_reset v false, not_kept v) (write-keyed false (keyless c) m reg v)
 
-write-keyless : (c : Channel) (m : List ℕ) (p : Place) (v : ℕ) → preset_at p ≡ false → write_at (keyless c) m p v ≡ served_with false (write_at c m p v)
+write-keyless : (c : Channel) (m : List ℕ) (p : Option Register) (v : ℕ) → preset_at p ≡ false → write_at (keyless c) m p v ≡ served_with false (write_at c m p v)
 unfolding write_at
-write-keyless c m (Here reg) v q = put-keyless c m reg v q
-write-keyless c m Elsewhere v q = refl
+write-keyless c m (Some reg) v q = put-keyless c m reg v q
+write-keyless c m None v q = refl
 
 pub served_keyless : (c : Channel) (m : List ℕ) (number : ℕ) (op : Op) → writes_preset number op ≡ false → served_by (keyless c) m number op ≡ served_with false (served_by c m number op)
 unfolding served_by

@@ -9,9 +9,8 @@ use Rattle.rules.specs.Numbers.{buffer_size}
 use Rattle.interrupt.specs.Interrupt.{be_after}
 use Rattle.interrupt.proofs.Laws.Interrupt.{be_swap}
 use Rattle.channel.specs.declared.state.Channel.{Channel}
-use Rattle.heads.specs.Heads.{all_but}
 use Rattle.part.specs.declared.state.Part.{Part}
-use Rattle.part.specs.State.{blank, chan, put_window, keyless}
+use Rattle.part.specs.State.{blank, chan, put_window, all_but, keyless}
 use Rattle.part.specs.Step.{one_after}
 use Rattle.part.proofs.Laws.Memory as memory
 use Rattle.part.proofs.Laws.Range.{accepts-whole, whole-accepts}
@@ -111,7 +110,7 @@ put_by s c w x o = record {
 }
 
 flat : (p : Part) (c : ℕ) (x : Channel) (n : ℕ) (writes : Bool)
-    → (let q = left_for p c writes in one_after q c x (record { be = be_after q.be n; mask = q.mask; key = q.key }))
+    → (let q = left_for p c writes in one_after q c x (be_after q.be n))
     ≡ record { channels = put_in p.channels c x writes; be = be_after p.be n; mask = p.mask; key = key_left p.key c writes }
 unfolding when◌then◌else◌
 flat p c x n true = refl
@@ -166,7 +165,7 @@ module _ (s : State) (g : Accepted s) where
       let chosen = w.stays (own_of s c) ∙ ap (λ (x : Channel). x.head.straps) (sym (left_own s.part c w.writes)) in
       whole-accepts t.part t.memory
       (record {
-        ranged = put_in_range (left_for s.part c w.writes) c _ _ (left_in s.part s.memory c w.writes good).ranged o.ranged chosen refl;
+        ranged = put_in_range (left_for s.part c w.writes) c _ _ (left_in s.part s.memory c w.writes good).ranged o.ranged chosen;
         whole = memory.length-put c (w.after (own_of s c)).bytes s.memory o.whole (fits c h) ∙ good.whole;
       })
 

@@ -12,10 +12,11 @@ pub returns-then-n-gt64 : goal.returns-then-n-gt64
 unfolding fault_of
 returns-then-n-gt64 c = rw (← c.count-n.ensures) (search cases depth 12)
 
-pub returns-then-file-n : goal.returns-then-file-n
+pub returns-then-file-data : goal.returns-then-file-data
 unfolding fault_of
-returns-then-file-n c = rw (← c.count-n.ensures) (search cases depth 12)
+returns-then-file-data c = rw (← c.count-n.ensures) (search cases depth 12)
 
 -- the header and the tables' blocks are there
 pub returns : goal.returns
-returns c = fault_behind c.args.file.now _ _ _ c.if-file-lt-HEADER.false c.count-n.ensures c.if-n-gt64.false c.if-file-n.false c.sum-s.ensures.0 c.body_fault.ensures
+returns c =
+    fault_behind c.args.file.now _ _ _ c.if-file-lt-HEADER.false c.count-n.ensures c.if-n-gt64.false c.if-file-data.false c.sum-s.ensures c.body_fault.ensures

@@ -1,9 +1,13 @@
 -- `files::format::headed_by` meets its contract: the twelve bytes are the header, or are not.
-use Rattle.files.proofs.Laws.Moves.{is_headed, is_forged}
+use Rattle.std.proofs.Common.{refl, ◌∙◌}
+use Rattle.laws.specs.Pick.{when◌then◌else◌}
+use Rattle.files.specs.File.{headed}
 use Rattle.files.proofs.format.headed_by.Goals as goal
 
-pub returns-then-same : goal.returns-then-same
-returns-then-same c = is_headed c.args.file.now _ c.args.n c.args.s _ c.header-forced.ensures c.same.ensures.0 c.if-same.true
+pub returns-then-eq : goal.returns-then-eq
+unfolding headed when◌then◌else◌
+returns-then-eq c = let h = c.as_flattened.ensures.value ∙ c.header.ensures in rw (← h, ← c.eq.ensures, c.if-eq.true) refl
 
-pub returns : goal.returns
-returns c = is_forged c.args.file.now _ c.args.n c.args.s _ c.header-forced.ensures c.same.ensures.1 c.if-same.false
+pub returns-else-eq : goal.returns-else-eq
+unfolding headed when◌then◌else◌
+returns-else-eq c = let h = c.as_flattened.ensures.value ∙ c.header.ensures in rw (← h, ← c.eq.ensures, c.if-eq.false) refl

@@ -1,16 +1,16 @@
 -- `files::single::load` meets its contract: no. 9, or the file read.
-use Rattle.files.specs.Deeds.{load_work}
-use Rattle.works.proofs.Laws.Calls.{alone_accepts, alone_refused, alone_took}
+use Rattle.works.proofs.Laws.Calls.{alone_accepts, alone_refused, alone_did}
+use Rattle.files.specs.Deeds.{load_deed, load_work}
 use Rattle.files.proofs.single.load.Goals as goal
 
-pub returns-then-n-ne0 : goal.returns-then-n-ne0
-returns-then-n-ne0 c = let a = c.args in
-    alone_refused (load_work a.file.now) a.c a.mem.now _ c.own_number-n.ensures c.if-n-ne0.true _ c.answer.ensures
+pub returns-in-Err : goal.returns-in-Err
+returns-in-Err c = let a = c.args in
+    let t = alone_refused (load_work a.file.now) a.c a.mem.now _ (rw c.in_range.ensures at c.range_number.ensures) _ c.in-Err.is _ (rw c.number.ensures at c.answer.ensures) in (t.0, t.1)
 
-pub load_sound-requires : goal.load_sound-requires
-load_sound-requires c = let a = c.args in
-    alone_accepts (load_work a.file.now) a.c a.mem.now _ c.own_number-n.ensures c.if-n-ne0.false
+pub load_sound-outcome-requires : goal.load_sound-outcome-requires
+load_sound-outcome-requires c = let a = c.args in
+    alone_accepts (load_work a.file.now) a.c a.mem.now _ (rw c.in_range.ensures at c.range_number.ensures) _ c.in_default.is
 
 pub returns : goal.returns
 returns c = let a = c.args in
-    alone_took (load_work a.file.now) a.c a.mem.now _ c.own_number-n.ensures c.if-n-ne0.false _ _ c.load_sound.ensures
+    let t = alone_did (load_deed a.file.now) a.c a.mem.now _ (rw c.in_range.ensures at c.range_number.ensures) _ c.in_default.is _ _ _ c.load_sound-outcome.ensures _ (rw c.number_of.ensures at c.answer-2.ensures) in (t.0, t.1)

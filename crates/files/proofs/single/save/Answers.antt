@@ -1,26 +1,16 @@
 -- `files::single::save` meets its contract: no. 9, or the file written.
-use Rattle.channel.specs.declared.state.Stepped.{Stepped}
-use Rattle.files.proofs.Laws.Calls.{save_leaves}
-use Rattle.files.specs.Deeds.{save_work}
-use Rattle.works.specs.Idle.{numbered, own_by}
-use Rattle.works.proofs.Laws.Calls.{alone_accepts, alone_kept, alone_gave}
-use Rattle.works.specs.Work.{Own}
-use mathlib.Core.Path.{sym, ◌∙◌, ap}
+use Rattle.works.proofs.Laws.Calls.{alone_accepts, alone_refused, alone_did}
+use Rattle.files.specs.Deeds.{save_deed, save_work}
 use Rattle.files.proofs.single.save.Goals as goal
 
-pub returns-then-n-ne0 : goal.returns-then-n-ne0
-returns-then-n-ne0 c = let a = c.args in
-    alone_kept (save_work a.out.now) a.c a.mem.now _ c.own_number-n.ensures c.if-n-ne0.true _ c.answer.ensures
+pub returns-in-Err : goal.returns-in-Err
+returns-in-Err c = let a = c.args in
+    let t = alone_refused (save_work a.out.now) a.c a.mem.now _ (rw c.in_range.ensures at c.range_number.ensures) _ c.in-Err.is _ (rw c.number.ensures at c.answer.ensures) in (t.0, t.2)
 
-pub save_sound-requires : goal.save_sound-requires
-save_sound-requires c = let a = c.args in
-    alone_accepts (save_work a.out.now) a.c a.mem.now _ c.own_number-n.ensures c.if-n-ne0.false
+pub save_sound-outcome-requires : goal.save_sound-outcome-requires
+save_sound-outcome-requires c = let a = c.args in
+    alone_accepts (save_work a.out.now) a.c a.mem.now _ (rw c.in_range.ensures at c.range_number.ensures) _ c.in_default.is
 
 pub returns : goal.returns
 returns c = let a = c.args in
-    let told = c.answer-2.ensures in
-    let left = sym (save_leaves a.out.now (own_by a.c a.mem.now)) in
-    alone_gave (save_work a.out.now) a.c a.mem.now _ c.own_number-n.ensures c.if-n-ne0.false _ _
-    (ap (λ (x : Stepped). x.channel) told ∙ ap (λ (o : Own). o.channel) left)
-    (ap (λ (x : Stepped). x.answer) told ∙ ap numbered c.save_sound.ensures.number)
-    c.save_sound.ensures.output
+    let t = alone_did (save_deed a.out.now) a.c a.mem.now _ (rw c.in_range.ensures at c.range_number.ensures) _ c.in_default.is _ _ _ c.save_sound-outcome.ensures _ (rw c.number_of.ensures at c.answer-2.ensures) in (t.0, t.2)

@@ -1,12 +1,14 @@
 -- `rules::access::find_place` meets its contract.
 use Rattle.rules.proofs.Laws.Access.{past_all, is_place, no_place}
+use Rattle.rules.proofs.access.find_place.Goals.{else-at-lt-BUFFER-via-then-at-lt-BUFFER+else-configured, else-at-lt-BUFFER-via-else-at-lt-BUFFER}
 use Rattle.rules.proofs.access.find_place.Goals as goal
 
-pub returns-then-at-ge-BUFFER : goal.returns-then-at-ge-BUFFER
-returns-then-at-ge-BUFFER c = past_all _ _ c.if-at-ge-BUFFER.true
-
 pub returns-then-configured : goal.returns-then-configured
-returns-then-configured c = is_place _ _ _ c.if-at-ge-BUFFER.false c.configured.ensures c.if-configured.true
+returns-then-configured c = is_place _ _ _ c.if-at-lt-BUFFER.true c.configured.ensures c.if-configured.true
 
-pub returns-else-configured : goal.returns-else-configured
-returns-else-configured c = no_place _ _ _ c.if-at-ge-BUFFER.false c.configured.ensures c.if-configured.false
+pub returns-else-at-lt-BUFFER : goal.returns-else-at-lt-BUFFER
+returns-else-at-lt-BUFFER c =
+    elim c.else-at-lt-BUFFER.branch [
+      | else-at-lt-BUFFER-via-then-at-lt-BUFFER+else-configured w ↦ no_place _ _ _ w.if-at-lt-BUFFER.true w.configured.ensures w.if-configured.false
+      | else-at-lt-BUFFER-via-else-at-lt-BUFFER w ↦ past_all _ _ w.if-at-lt-BUFFER.false
+    ]

@@ -9,4 +9,4 @@ returns-then-v-gt63 c = search cases depth 12
 
 pub returns : goal.returns
 unfolding sel_refusal
-returns c = rw (← c.start_of-start.ensures.0) (search cases depth 12)
+returns c = rw (← c.start_of.ensures.0) (search cases depth 12)

@@ -1,9 +1,7 @@
--- `rules::tables::mark` meets its contract: what is marked from i on is what is marked from the start.
-use Rattle.rules.proofs.Laws.Tables.{marks}
+-- `rules::tables::mark` meets its contract: what is put in the place of the part is what is marked there.
+use Rattle.std.proofs.Common.{rules}
+use Rattle.rules.proofs.Laws.Tables.{marked_part}
 use Rattle.rules.proofs.tables.mark.Goals as goal
 
-pub loop-i-preserved : goal.loop-i-preserved
-loop-i-preserved c = search marks
-
 pub returns : goal.returns
-returns c = search marks
+returns c = marked_part _ _ _ _ c.requires.0 (search rules) (c.fill.ensures.after (λ y e. e))

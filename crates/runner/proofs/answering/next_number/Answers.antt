@@ -1,12 +1,7 @@
 -- `runner::answering::next_number` meets its contract.
-use Rattle.runner.specs.Text.{number_after}
-use Rattle.laws.specs.Cases.{cases}
+use Rattle.std.proofs.Common.{◌∙◌}
+use Rattle.runner.proofs.Laws.Feeding.{number_is}
 use Rattle.runner.proofs.answering.next_number.Goals as goal
 
-pub returns-then-step-eq18446744073709551615 : goal.returns-then-step-eq18446744073709551615
-unfolding number_after
-returns-then-step-eq18446744073709551615 c = search cases depth 12
-
 pub returns : goal.returns
-unfolding number_after
-returns c = search cases depth 12
+returns c = c.saturating_add.ensures ∙ number_is c.args.step c.ranges.step.fits

@@ -7,14 +7,6 @@ use native.Mathlib.Omega.{arith}
 use borrow.Author.Rules.{rules}
 use Rattle.runner.proofs.lines.put_start.Goals as goal
 
-pub overflow_sub-at : goal.overflow_sub-at
-unfolding line_room
-overflow_sub-at c = search rules
-
-pub slice_bounds-put-end : goal.slice_bounds-put-end
-unfolding line_room
-slice_bounds-put-end c = search rules
-
 pub put-requires : goal.put-requires
 unfolding line_room
 put-requires c =
@@ -24,7 +16,3 @@ put-requires c =
 pub returns : goal.returns
 unfolding line_room
 returns c = (refl, c.put.ensures.bytes, length-take-le c.args.n c.args.bytes (search rules))
-
-pub slice_bounds-bytes-end : goal.slice_bounds-bytes-end
-unfolding line_room
-slice_bounds-bytes-end c = search rules

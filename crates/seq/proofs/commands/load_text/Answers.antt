@@ -1,28 +1,32 @@
 -- `seq::commands::load_text` meets its contract: what the library read is a readable file.
-use Rattle.std.proofs.Common.{◌∙◌, refl, sym, arith, rules}
+use Rattle.std.proofs.Common.{◌≡◌, length, refl, arith, rules}
 use Rattle.part.specs.State.{wiped}
 use Rattle.files.proofs.Laws.Answered.{load-answered}
-use Rattle.seq.proofs.Laws.Commands.{load_number}
+use Rattle.seq.specs.Typing.{script_of, typing_all}
+use Rattle.seq.proofs.Laws.Commands.{sized_done, sized_refused, load_number}
 use Rattle.seq.proofs.commands.load_text.Goals as goal
 
 pub type_file-requires : goal.type_file-requires
 unfolding wiped
 type_file-requires c =
-    let known = load-answered _ _ _ _ c.if-answer-eq-DONE.true _ c.load_into-r.ensures.0 in
+    let known = load-answered _ _ _ _ c.if-number-ne-DONE.false _ c.load_into-r.ensures.0 in
     (known.0, known.1, search rules)
-
-pub returns-then-answer-eq-DONE : goal.returns-then-answer-eq-DONE
-unfolding wiped
-returns-then-answer-eq-DONE c = record {
-  number = sym c.if-answer-eq-DONE.true ∙ load_number _ _ _ c.args.c _ c.new.ensures refl c.load_into-r.ensures.0;
-  script = λ e. c.type_file.ensures.0;
-  fits = search rules;
-}
 
 pub returns : goal.returns
 unfolding wiped
-returns c = record {
-  number = load_number _ _ _ c.args.c _ c.new.ensures refl c.load_into-r.ensures.0;
-  script = λ e. absurd (c.if-answer-eq-DONE.false e);
-  fits = omega arith;
+returns c =
+    let size = length (script_of (typing_all c.args.c c.args.file.now)) in
+    let long : c.type_file.result ≡ size = omega (arith, c.type_file.ensures.0.place) in
+    record {
+      answer = sized_done _ _ size (load_number c.args.file.now _ _ c.args.c _ c.new.ensures refl c.load_into-r.ensures.0) _ c.if-number-ne-DONE.false long;
+      script = c.type_file.ensures.0;
+      fits = search rules;
+    }
+
+pub returns-then-number-ne-DONE : goal.returns-then-number-ne-DONE
+unfolding wiped
+returns-then-number-ne-DONE c = record {
+  answer = sized_refused _ _ _ (load_number c.args.file.now _ _ c.args.c _ c.new.ensures refl c.load_into-r.ensures.0) c.if-number-ne-DONE.true;
+  script = tt;
+  fits = tt;
 }

@@ -23,8 +23,8 @@ loop-from-preserved c =
     let after : c.loop-from.from ≤ c.line_end-end.result = omega (arith, end_after c.args.text.now c.loop-from.from, c.line_end-end.ensures) in (
       search rules,
       going_on_lem _ _ _ _ _ _ _ c.loop-from.invariant.1 _ _ _ _ _ _ c.loop-from-test.true c.line_end-end.ensures c.read_line.ensures
-          c.do_line-r.ensures.0 c.do_line-r.ensures.1 c.count-tally.ensures.0 c.count-tally.ensures.1 c.count-tally.ensures.2 after,
+          c.do_line-r.ensures.0 c.do_line-r.ensures.1 c.count.ensures.0 c.count.ensures.1 c.count.ensures.2 after,
     )
 
 pub returns : goal.returns
-returns c = going_done _ _ _ _ _ _ _ _ c.loop-from.invariant.1 (search rules) c.new-part.ensures c.none_yet-tally.ensures
+returns c = going_done _ _ _ _ _ _ _ _ c.loop-from.invariant.1 (search rules) c.new-part.ensures c.new-tally.ensures

@@ -5,15 +5,15 @@ use Rattle.channel.specs.Step.{range_number, outcome_of}
 use mathlib.Core.Path.{◌∙◌, ap}
 use Rattle.channel.proofs.state.Channel.step.Goals as goal
 
-pub returns-then-n-ne0 : goal.returns-then-n-ne0
+pub returns-in-Err : goal.returns-in-Err
 unfolding outcome_of
-returns-then-n-ne0 c = let e = c.range_number-n.ensures ∙ ap (range_number _) c.in_range-ok.ensures in
-    steps _ _ _ (guarded_no _ _ _ _ _ _ e c.if-n-ne0.true (rw c.answer.ensures))
+returns-in-Err c = let e = c.range_number.ensures ∙ ap (range_number _) c.in_range.ensures in
+    steps _ _ _ (guarded_no _ _ _ _ _ _ e _ c.in-Err.is (rw (c.answer.ensures, c.number.ensures)))
 
-pub serve-requires : goal.serve-requires
-serve-requires c = accepts _ _ _ (c.range_number-n.ensures ∙ ap (range_number _) c.in_range-ok.ensures) c.if-n-ne0.false
+pub serve-answer-requires : goal.serve-answer-requires
+serve-answer-requires c = accepts _ _ _ _ (c.range_number.ensures ∙ ap (range_number _) c.in_range.ensures) c.in_default.is
 
 pub returns : goal.returns
 unfolding outcome_of
-returns c = let e = c.range_number-n.ensures ∙ ap (range_number _) c.in_range-ok.ensures in
-    steps _ _ _ (guarded-yes _ _ _ _ _ _ e c.if-n-ne0.false c.serve.ensures)
+returns c = let e = c.range_number.ensures ∙ ap (range_number _) c.in_range.ensures in
+    steps _ _ _ (guarded-yes _ _ _ _ _ _ e _ c.in_default.is c.serve-answer.ensures)

@@ -1,1 +1,0 @@
--- `bounds::counted_in` meets its contract.

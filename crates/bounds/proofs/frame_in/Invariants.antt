@@ -1,1 +1,0 @@
--- `bounds::frame_in` meets its contract.

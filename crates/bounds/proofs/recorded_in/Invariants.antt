@@ -1,1 +1,0 @@
--- `bounds::recorded_in` meets its contract.

@@ -1,2 +1,0 @@
--- Laws of the definitions, for the proofs of functions. Nothing here needs to be believed: it is proved.
-pub mod Keys

@@ -1,1 +1,0 @@
--- `sequence::walk::end_flags` meets its contract.

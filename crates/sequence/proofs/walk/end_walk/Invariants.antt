@@ -1,1 +1,0 @@
--- `sequence::walk::end_walk` meets its contract.

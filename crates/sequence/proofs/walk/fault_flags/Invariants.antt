@@ -1,1 +1,0 @@
--- `sequence::walk::fault_flags` meets its contract.

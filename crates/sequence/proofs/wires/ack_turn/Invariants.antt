@@ -1,1 +1,0 @@
--- `sequence::wires::ack_turn` meets its contract.

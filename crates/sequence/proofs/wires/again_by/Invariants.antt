@@ -1,1 +1,0 @@
--- `sequence::wires::again_by` meets its contract.

@@ -1,1 +1,0 @@
--- `sequence::wires::asked_in_lem` meets its contract.

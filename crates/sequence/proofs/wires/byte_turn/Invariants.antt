@@ -1,1 +1,0 @@
--- `sequence::wires::byte_turn` meets its contract.

@@ -1,1 +1,0 @@
--- `sequence::wires::heard_turn` meets its contract: in each arm the event is known.

@@ -1,1 +1,0 @@
--- `sequence::wires::nack_turn` meets its contract.

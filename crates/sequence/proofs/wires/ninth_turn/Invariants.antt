@@ -1,1 +1,0 @@
--- `sequence::wires::ninth_turn` meets its contract.

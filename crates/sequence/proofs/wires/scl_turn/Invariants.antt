@@ -1,1 +1,0 @@
--- `sequence::wires::scl_turn` meets its contract.

@@ -1,1 +1,0 @@
--- `sequence::wires::sda_turn` meets its contract.

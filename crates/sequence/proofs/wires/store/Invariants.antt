@@ -1,1 +1,0 @@
--- `sequence::wires::store` meets its contract.

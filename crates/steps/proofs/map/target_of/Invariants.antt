@@ -1,1 +1,0 @@
--- `steps::map::target_of` meets its contract.
