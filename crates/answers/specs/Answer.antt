@@ -1,13 +1,11 @@
 -- Document 01, 'The script program': what is printed, byte by byte.
-use Rattle.std.specs.Prelude.{ℕ, zero, suc, ◌+◌, ◌/◌, ◌%◌, Bool, true, false, not, List, [], ◌∷◌, ◌++◌, ◌≡◌, ltb, leb, length, get_or, take}
+use Rattle.std.specs.Prelude.{ℕ, zero, suc, ◌+◌, ◌/◌, ◌%◌, Bool, true, false, not, List, [], ◌∷◌, ◌++◌, ◌≡◌, ltb, leb, length, get_or, take, if◌then◌else◌}
 use Rattle.std.proofs.lemmas.List.Edits.{sets}
-use Rattle.laws.specs.Pick.{when◌then◌else◌}
 use Rattle.laws.specs.Ascii.{ascii}
 use Rattle.rules.specs.Numbers.{unreadable}
 use Rattle.letters.specs.Letters.{digit_of, text_of}
 use Rattle.rules.specs.declared.wires.Action.{Action}
 use Rattle.rules.specs.declared.wires.Action.TheVariants.{Nothing, S, R, D, C, A, Np, Nr, P}
-use Rattle.steps.specs.declared.answer.Act.{Act}
 use Rattle.steps.specs.declared.answer.PartAnswer.{PartAnswer}
 use Rattle.steps.specs.Answer.{quiet}
 
@@ -19,7 +17,7 @@ pub record Put (l : List ℕ) (at : ℕ) (text : List ℕ) (r : ℕ) (m : List �
 -- the decimal digits of x, the fewest, where n are enough; 0 stands at 48
 unfoldable pub digits_of : ℕ → ℕ → List ℕ
 digits_of zero x = []
-digits_of (suc n) x = (when ltb x 10 then [] else digits_of n (x / 10)) ++ ((48 + x % 10) ∷ [])
+digits_of (suc n) x = (if ltb x 10 then [] else digits_of n (x / 10)) ++ ((48 + x % 10) ∷ [])
 
 -- step and answer numbers are decimal; the largest step number, 2^64 - 1, has 20 digits
 abbrev pub decimal_of : ℕ → List ℕ
@@ -27,7 +25,7 @@ decimal_of x = digits_of 20 x
 
 -- INT: 1 pulled
 unfoldable pub level_of : Bool → ℕ
-level_of int = when int then 49 else 48
+level_of int = if int then 49 else 48
 
 -- value and INT, and the blanks round them
 abbrev pub middle_of : ℕ → Bool → List ℕ
@@ -47,7 +45,7 @@ busy_of P = true
 
 -- a text where a test holds, else nothing
 unfoldable pub text_if : Bool → List ℕ → List ℕ
-text_if b text = when b then text else []
+text_if b text = if b then text else []
 
 -- one byte where a test holds
 abbrev pub only_if : Bool → ℕ → List ℕ
@@ -66,12 +64,12 @@ unfoldable pub action_of : Bool → ℕ → Action → List ℕ
 action_of later c a = text_if (busy_of a) (entry_of later c a)
 
 -- the action of channel i
-abbrev pub action_at : List Act → ℕ → Action
-action_at l i = (get_or l i (record { action = Nothing })).action
+abbrev pub action_at : List Action → ℕ → Action
+action_at l i = get_or l i Nothing
 
 -- one or the other
 abbrev pub or_of : Bool → Bool → Bool
-or_of a b = when a then a else b
+or_of a b = if a then a else b
 
 -- the actions of channels 0, 1 and 2, joined by commas, lowest channel first, or `-` (45)
 abbrev pub by_commas : Action → Action → Action → List ℕ
@@ -81,7 +79,7 @@ by_commas a b c =
     ++ (action_of (or_of (busy_of a) (busy_of b)) 2 c
     ++ only_if (not (or_of (or_of (busy_of a) (busy_of b)) (busy_of c))) 45))
 
-unfoldable pub actions_of : List Act → List ℕ
+unfoldable pub actions_of : List Action → List ℕ
 actions_of l = by_commas (action_at l 0) (action_at l 1) (action_at l 2)
 
 -- step number, answer number, value, INT, actions, and LF

@@ -5,12 +5,12 @@ ghost use Rattle.std.specs.Prelude.{◌≡◌, ◌+◌, ◌<◌, ◌≤◌, leng
 ghost use Rattle.answers.specs.Answer.{Put, decimal_of, level_of, middle_of, busy_of, only_if, entry_of, action_of, actions_of, answer_line, header, answer_room, roomy, text_if, no_answer};
 
 use rules::{Action, Refusal};
-use steps::{Act, PartAnswer};
+use steps::PartAnswer;
 
 // The bytes that have to be left where a line is put (`answer_room`).
 pub const ANSWER_ROOM: usize = 80;
 
-// ---- pieces of text, each put at a place of the output; the place after it comes back
+// ---- pieces of text, each put at a place of the output; the place after it comes back, as `Put` has it, which `put`, `write_header` and `write_answer` promise
 
 // Puts a text into a buffer at a place.
 pub fn put(out: &mut [u8], at: usize, text: &[u8]) -> usize
@@ -48,8 +48,7 @@ fn put_middle(out: &mut [u8], at: usize, value: u8, int: bool) -> usize
     requires { at + 6 ≤ length out.old }
     ensures { Put out.old at (middle_of value int) result out.new }
 {
-    let high = letters::digit(value / 16);
-    let low = letters::digit(value % 16);
+    let [high, low] = letters::hex(value);
     put(out, at, &[b' ', high, low, b' ', level(int), b' '])
 }
 
@@ -65,10 +64,10 @@ fn put_entry(out: &mut [u8], at: usize, later: bool, c: u8, a: Action) -> usize
     requires { (at + 7 ≤ length out.old) × (c < 10) }
     ensures { Put out.old at (entry_of later c a) result out.new × (result ≤ at + 7) }
 {
-    let p = put_if(out, at, later, b',');
-    let q = put(out, p, &[b'0' + c, b':']);
+    let at = put_if(out, at, later, b',');
+    let at = put(out, at, &[b'0' + c, b':']);
     let text = letters::spell(a);
-    put(out, q, &text.bytes[..text.len])
+    put(out, at, &text.bytes[..text.len])
 }
 
 fn put_action(out: &mut [u8], at: usize, later: bool, c: u8, a: Action) -> usize
@@ -82,19 +81,18 @@ fn put_action(out: &mut [u8], at: usize, later: bool, c: u8, a: Action) -> usize
     }
 }
 
-fn put_actions(out: &mut [u8], at: usize, acts: [Act; 3]) -> usize
+// Three in a row, as `by_commas` has them: a loop would need the rule of the commas said of the first c channels.
+fn put_actions(out: &mut [u8], at: usize, acts: [Action; 3]) -> usize
     requires { at + 22 ≤ length out.old }
     ensures { Put out.old at (actions_of acts) result out.new × (result ≤ at + 22) }
 {
-    let first = acts[0].action;
-    let second = acts[1].action;
-    let third = acts[2].action;
+    let [first, second, third] = acts;
     let one = busy(first);
     let two = one || busy(second);
     if two || busy(third) {
-        let p = put_action(out, at, false, 0, first);
-        let q = put_action(out, p, one, 1, second);
-        put_action(out, q, two, 2, third)
+        let at = put_action(out, at, false, 0, first);
+        let at = put_action(out, at, one, 1, second);
+        put_action(out, at, two, 2, third)
     } else {
         put(out, at, b"-")
     }
@@ -112,12 +110,12 @@ fn put_line(step: u64, reply: PartAnswer, int: bool, out: &mut [u8], at: usize) 
     requires { at + answer_room ≤ length out.old }
     ensures { Put out.old at (answer_line step reply int) result out.new × (result ≤ at + answer_room) }
 {
-    let p = put_decimal(out, at, step);
-    let q = put(out, p, b" ");
-    let s = put_decimal(out, q, reply.number as u64);
-    let t = put_middle(out, s, reply.value, int);
-    let u = put_actions(out, t, reply.actions);
-    put(out, u, b"\n")
+    let at = put_decimal(out, at, step);
+    let at = put(out, at, b" ");
+    let at = put_decimal(out, at, reply.number as u64);
+    let at = put_middle(out, at, reply.value, int);
+    let at = put_actions(out, at, reply.actions);
+    put(out, at, b"\n")
 }
 
 // Puts the header line into the output at a place, and gives the place after it. With fewer than ANSWER_ROOM bytes left it puts nothing.

@@ -1,11 +1,11 @@
 // The script program: steps on standard input, a line each, and a line of answer for each on standard output, over one part.
 #![tactic(auto)]
 
-ghost use Rattle.std.specs.Prelude.{◌≡◌, ◌+◌, ◌*◌, ◌≤◌, length, take, drop};
+ghost use Rattle.std.specs.Prelude.{◌≡◌, ◌+◌, ◌-◌, ◌*◌, ◌≤◌, length, take, drop};
 ghost use Rattle.part.specs.State.{wiped};
 ghost use Rattle.script.specs.Grammar.{line_room};
 ghost use Rattle.answers.specs.Answer.{answer_room};
-ghost use Rattle.bench.specs.Talk.{block_size, sitting_of, bare_of, silenced, Sized, Ready, Heard, Closed, Written, going_on, Begun, Turned};
+ghost use Rattle.bench.specs.Talk.{block_size, sitting_of, bare_of, silenced, Sized, Ready, Heard, Closed, Written, Begun, Turned};
 
 use answers::ANSWER_ROOM;
 use part::Part;
@@ -28,6 +28,27 @@ struct Seat {
     step: u64,
     line: Start,
     at: usize,
+}
+
+// What the program lends: the block that is read into, the part's memory, and the output.
+#[derive(Drop)]
+struct Buffers {
+    block: [u8; BLOCK],
+    mem: [u8; MEMORY],
+    out: [u8; OUTPUT],
+}
+
+impl Buffers {
+    #[tactic(auto, unfolding(part::specs::State::wiped))]
+    fn new() -> Self
+        ensures { result.mem ≡ wiped }
+    {
+        Buffers {
+            block: [0; BLOCK],
+            mem: [0; MEMORY],
+            out: [0; OUTPUT],
+        }
+    }
 }
 
 // How the program goes on: another read, or it stops since the input has ended.
@@ -63,35 +84,44 @@ struct Bench {
 
 // ---- the bytes of a block
 
-// Answers each line that ends in the block and keeps the start of the line that doesn't.
-fn answer_block(s: Seat, block: &[u8], mem: &mut [u8], out: &mut [u8]) -> Seat
-    requires { Ready s mem.old × (answer_room * length block.now ≤ length out.old) }
-    ensures { Heard (bare_of s mem.old) block.now result mem.new out.new }
+// Answers each line that ends in a part of the block and keeps the start of the line that doesn't. Block, memory and output one by one: the block is lent to be
+// read, the others to be written.
+fn answer_block(
+    s: Seat,
+    block: &[u8],
+    from: usize,
+    till: usize,
+    mem: &mut [u8],
+    out: &mut [u8],
+) -> Seat
+    requires { Ready s mem.old × (from ≤ till) × (till ≤ length block.now) × (answer_room * length block.now ≤ length out.old) }
+    ensures { Heard (bare_of s mem.old) (take (till - from) (drop from block.now)) result mem.new out.new }
 {
+    let lines = &block[from..till];
     let course = Course {
         part: s.part,
         step: s.step,
         from: 0,
         at: 0,
     };
-    let r = runner::answer_lines(course, block, mem, out);
+    let r = runner::answer_lines(course, lines, mem, out);
     Seat {
         part: r.part,
         step: r.step,
-        line: runner::lengthen(runner::no_line(), &block[r.from..]),
+        line: runner::lengthen(runner::no_line(), &lines[r.from..]),
         at: r.at,
     }
 }
 
 // Answers the line that was begun and n bytes more, which the block has from place LINE_ROOM on.
 #[tactic(auto, unfolding(script::specs::Grammar::line_room))]
-fn answer_from(s: Seat, block: &mut [u8], n: usize, mem: &mut [u8], out: &mut [u8]) -> Seat
-    requires { Ready s mem.old × (line_room + n ≤ length block.old) × (answer_room * length block.old ≤ length out.old) }
-    ensures heard { Heard (sitting_of s mem.old) (take n (drop line_room block.old)) result mem.new out.new }
-    ensures block_unchanged { (drop line_room block.new ≡ drop line_room block.old) × Sized s.line }
+fn answer_from(s: Seat, b: &mut Buffers, n: usize) -> Seat
+    requires { Ready s b.old.mem × (line_room + n ≤ length b.old.block) }
+    ensures heard { Heard (sitting_of s b.old.mem) (take n (drop line_room b.old.block)) result b.new.mem b.new.out }
+    ensures block_unchanged { (drop line_room b.new.block ≡ drop line_room b.old.block) × Sized s.line }
 {
-    let at = runner::put_start(s.line.bytes, runner::kept(s.line.len), block);
-    answer_block(s, &block[at..LINE_ROOM + n], mem, out)
+    let at = runner::put_start(s.line.bytes, runner::kept(s.line.len), &mut b.block);
+    answer_block(s, &b.block, at, LINE_ROOM + n, &mut b.mem, &mut b.out)
 }
 
 // No text.
@@ -103,14 +133,15 @@ fn silent(s: Seat) -> Seat
 
 // The input has ended: what follows the last LF is a line if it has a byte.
 #[tactic(auto, unfolding(script::specs::Grammar::line_room))]
-fn finish(s: Seat, block: &mut [u8], mem: &mut [u8], out: &mut [u8]) -> Seat
-    requires { Ready s mem.old × (line_room + 1 ≤ length block.old) × (answer_room * length block.old ≤ length out.old) }
-    ensures { Closed (sitting_of s mem.old) result mem.new out.new }
+fn finish(s: Seat, b: &mut Buffers) -> Seat
+    requires { Ready s b.old.mem }
+    ensures { Closed (sitting_of s b.old.mem) result b.new.mem b.new.out }
 {
+    // a name, by which `Closed`'s two cases are told apart in the proof and `last_line_lost` is refused
     let begun = 0 < s.line.len;
     if begun {
-        answers::put(block, LINE_ROOM, b"\n");
-        answer_from(s, block, 1, mem, out)
+        answers::put(&mut b.block, LINE_ROOM, b"\n");
+        answer_from(s, b, 1)
     } else {
         silent(s)
     }
@@ -118,32 +149,23 @@ fn finish(s: Seat, block: &mut [u8], mem: &mut [u8], out: &mut [u8]) -> Seat
 
 // ---- reads and writes
 
-// Writes the first n bytes, and goes on as meant unless that failed.
+// Writes the first n bytes, and goes on as meant unless that failed. Buffer and number: the bound of a part does not prove where it is called.
 fn written<W: Write>(to: &mut W, out: &[u8], n: usize, next: Next) -> Result<Next, Failed>
     requires { n ≤ length out.now }
     ensures { Written next result }
 {
-    match to.write_all(&out[..n]) {
-        Ok(()) => Ok(next),
-        Err(_) => Err(Failed::Unwritten),
-    }
+    to.write_all(&out[..n]).map_err(|_| Failed::Unwritten)?;
+    Ok(next)
 }
 
 // One read, of what is there, and the answers to its lines.
 #[tactic(auto, unfolding(script::specs::Grammar::line_room))]
-fn turn<R: Read, W: Write>(
-    from: &mut R,
-    to: &mut W,
-    s: Seat,
-    block: &mut [u8],
-    mem: &mut [u8],
-    out: &mut [u8],
-) -> Bench
-    requires { Ready s mem.old × (line_room + 1 ≤ length block.old) × (answer_room * length block.old ≤ length out.old) }
-    ensures turned { Turned s mem.old result mem.new (take result.came (drop line_room block.new)) (take result.seat.at out.new) }
-    ensures ready { Ready result.seat mem.new }
+fn turn<R: Read, W: Write>(from: &mut R, to: &mut W, s: Seat, b: &mut Buffers) -> Bench
+    requires { Ready s b.old.mem }
+    ensures turned { Turned s b.old.mem result b.new.mem (take result.came (drop line_room b.new.block)) (take result.seat.at b.new.out) }
+    ensures ready { Ready result.seat b.new.mem }
 {
-    let Ok(n) = from.read(&mut block[LINE_ROOM..]) else {
+    let Ok(n) = from.read(&mut b.block[LINE_ROOM..]) else {
         return Bench {
             seat: silent(s),
             came: 0,
@@ -151,18 +173,18 @@ fn turn<R: Read, W: Write>(
         };
     };
     if n == 0 {
-        let last = finish(s, block, mem, out);
+        let last = finish(s, b);
         return Bench {
             seat: last,
             came: 0,
-            how: written(to, out, last.at, Next::Ended),
+            how: written(to, &b.out, last.at, Next::Ended),
         };
     }
-    let next = answer_from(s, block, n, mem, out);
+    let next = answer_from(s, b, n);
     Bench {
         seat: next,
         came: n,
-        how: written(to, out, next.at, Next::On),
+        how: written(to, &b.out, next.at, Next::On),
     }
 }
 
@@ -184,47 +206,20 @@ fn begin<W: Write>(to: &mut W, out: &mut [u8]) -> Bench
     }
 }
 
-// A proved loop has to end, and nothing says that the input does: it counts its turns down, from a number that no run uses up.
-fn goes_on(turns: u64, how: Result<Next, Failed>) -> bool
-    ensures { result ≡ going_on turns how }
-{
-    matches!(how, Ok(Next::On)) && 0 < turns
-}
-
-// The block and the output: of arrays written out in `main` the prover sees each byte, and does not end.
-fn input() -> [u8; BLOCK]
-    ensures { length result ≡ block_size }
-{
-    [0; BLOCK]
-}
-
-fn output() -> [u8; OUTPUT]
-    ensures { length result ≡ answer_room * block_size }
-{
-    [0; OUTPUT]
-}
-
+// A proved loop has to end, and nothing says that the input does: it has a number of turns that no run uses up.
 fn main(rt: HostRuntime) {
     let mut stdin = rt.stdin();
     let mut stdout = rt.stdout();
-    let mut block = input();
-    let mut out = output();
-    let mut mem = [0u8; MEMORY];
-    let mut b = begin(&mut stdout, &mut out);
+    let mut buffers = Buffers::new();
+    let mut b = begin(&mut stdout, &mut buffers.out);
     // the last step before the turn: its answer is written
     let mut safe = 0;
-    let mut turns = u64::MAX;
-    while goes_on(turns, b.how) {
+    for _ in 0..u64::MAX {
+        let Ok(Next::On) = b.how else {
+            break;
+        };
         safe = b.seat.step;
-        b = turn(
-            &mut stdin,
-            &mut stdout,
-            b.seat,
-            &mut block,
-            &mut mem,
-            &mut out,
-        );
-        turns -= 1;
+        b = turn(&mut stdin, &mut stdout, b.seat, &mut buffers);
     }
     // what is said on standard error is a failure to ./bench; the answers up to the step are written
     if let Err(e) = b.how {

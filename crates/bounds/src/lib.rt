@@ -1,4 +1,4 @@
-// Document 01, 'Out of range': its clauses over the parts of a channel's record.
+// Document 01, 'Out of range': its clauses over the parts of a channel's record. Each table by itself, since this crate stands below `Channel`.
 #![tactic(auto, using(laws::specs::Cases::cases), unfolding(crate::specs::Range::pointers_in, crate::specs::Range::registers_in, crate::specs::Range::counting_of, crate::specs::Range::ended_in, crate::specs::Range::blank_of, crate::specs::Range::recorded_in, crate::specs::Range::walk_in, crate::specs::Range::standing, crate::specs::Range::counted_in, crate::specs::Range::counts_in, crate::specs::Range::frame_at, crate::specs::Range::frame_in, crate::specs::Range::kinds_in))]
 
 ghost use Rattle.std.specs.Prelude.{◌≡◌, ◌<◌, ◌≤◌, get_or};
@@ -12,6 +12,7 @@ pub fn pointers_in(p: Ptrs) -> bool
     p.sla <= 64 && p.count <= 64 && p.conf <= 65 && p.buf <= BUFFER
 }
 
+// Three values, once each: a struct would be no plainer.
 pub fn registers_in(count: u8, transel: u8, intmsk: u8) -> bool
     ensures { result ≡ registers_in count transel intmsk }
 {
@@ -115,7 +116,7 @@ pub fn frame_in(kind: Kind, p: Phase, sla: &[u8; 64], lens: &[u8; 65], counts: &
     }
 }
 
-// Whether the kinds of the channels are those of one part.
+// Whether the kinds of the channels are those of one part. One by one, as definition `kinds_in` has them.
 pub fn kinds_in(first: Kind, second: Kind, third: Kind) -> bool
     ensures { result ≡ kinds_in first second third }
 {

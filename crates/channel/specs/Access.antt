@@ -1,6 +1,5 @@
 -- Document 01, 'Numbers that an answer carries' and 'Table accesses': what a read and a write of each register do, CONTROL, and the reset key.
-use Rattle.std.specs.Prelude.{ℕ, List, get_or, set}
-use Rattle.laws.specs.Pick.{when◌then◌else◌}
+use Rattle.std.specs.Prelude.{ℕ, List, get_or, set, if◌then◌else◌}
 use Rattle.rules.specs.declared.registers.Command.{Command}
 use Rattle.rules.specs.declared.registers.Register.{Register}
 use Rattle.rules.specs.declared.registers.Register.TheVariants.{Status, Control, Chstatus, Intmsk, Slatable, Tranconfig, Data, Transel, Tranofs, Bytecount, Setting, Preset}
@@ -86,4 +85,4 @@ keyed c reg v = with_head c (with_key c.head (key_after (preset_of reg) v))
 
 unfoldable pub put_of : Channel → List ℕ → Register → ℕ → Served
 put_of c m reg v =
-    when resets_of (preset_of reg) v c.head.key then leaving zeros (on (fresh c.head.straps) (plain (fresh_head c.head.straps))) else write_of (keyed c reg v) m reg v
+    if resets_of (preset_of reg) v c.head.key then leaving zeros (on (fresh c.head.straps) (plain (fresh_head c.head.straps))) else write_of (keyed c reg v) m reg v

@@ -1,6 +1,5 @@
 -- Document 01, 'Out of range': when the record of a channel is in range.
-use Rattle.std.specs.Prelude.{Bool, false}
-use Rattle.laws.specs.Pick.{when◌then◌else◌}
+use Rattle.std.specs.Prelude.{Bool, false, if◌then◌else◌}
 use Rattle.bounds.specs.Range.{frame_in}
 use Rattle.head.specs.Head.{kind_of}
 use Rattle.head.specs.Range.{head_in}
@@ -9,4 +8,4 @@ use Rattle.channel.specs.State.{count_of}
 
 unfoldable pub in_range : Channel → Bool
 in_range c =
-    when head_in c.head (count_of c) then frame_in (kind_of c.head) c.head.walk.phase c.slatable c.tranconfig c.bytecount else false
+    if head_in c.head (count_of c) then frame_in (kind_of c.head) c.head.walk.phase c.slatable c.tranconfig c.bytecount else false

@@ -1,6 +1,5 @@
 -- Words for the record of a channel: its head or a table replaced, the reset values, and what a step answers and leaves.
-use Rattle.std.specs.Prelude.{ℕ, List, eqb, get_or, replicate}
-use Rattle.laws.specs.Pick.{when◌then◌else◌}
+use Rattle.std.specs.Prelude.{ℕ, List, eqb, get_or, replicate, if◌then◌else◌}
 use Rattle.rules.specs.Numbers.{buffer_size, done}
 use Rattle.rules.specs.declared.parts.Straps.{Straps}
 use Rattle.head.specs.declared.state.Answer.{Answer}
@@ -53,7 +52,7 @@ leaving m s = record { stepped = s; bytes = m }
 
 -- refused by a number that is not 0, and otherwise done
 unfoldable pub guarded : ℕ → Channel → List ℕ → Served → Served
-guarded n c m d = when eqb n done then d else leaving m (on c (refused c.head n))
+guarded n c m d = if eqb n done then d else leaving m (on c (refused c.head n))
 
 -- ---- the count, entry 0 of TRANCONFIG
 abbrev pub count_of : Channel → ℕ

@@ -1,6 +1,5 @@
 -- One step of a single channel: the number that refuses it, or the write, the read or the event.
-use Rattle.std.specs.Prelude.{ℕ, Bool, List, Option, Some, None, eqb, ltb, length}
-use Rattle.laws.specs.Pick.{when◌then◌else◌}
+use Rattle.std.specs.Prelude.{ℕ, Bool, List, Option, Some, None, eqb, ltb, length, if◌then◌else◌}
 use Rattle.rules.specs.declared.registers.Register.{Register}
 use Rattle.rules.specs.Numbers.{buffer_size, done, nowhere, out_of_range}
 use Rattle.rules.specs.Registers.{place_of}
@@ -27,7 +26,7 @@ read_at c m None = leaving m (on c (refused c.head nowhere))
 
 -- no. 1: channel above 2
 unfoldable pub event_at : Channel → List ℕ → ℕ → Event → Served
-event_at c m number e = when ltb 2 number then leaving m (on c (refused c.head nowhere)) else turned c m (turn_at c.head e)
+event_at c m number e = if ltb 2 number then leaving m (on c (refused c.head nowhere)) else turned c m (turn_at c.head e)
 
 -- a step of the channel with this number, whose record is in range
 unfoldable pub served_by : Channel → List ℕ → ℕ → Op → Served
@@ -37,7 +36,7 @@ served_by c m number (Wire e) = event_at c m number e
 
 -- no. 9: a memory of another length, or a state out of range
 unfoldable pub range_number : ℕ → Bool → ℕ
-range_number len ok = when eqb len buffer_size then (when ok then done else out_of_range) else out_of_range
+range_number len ok = if eqb len buffer_size then (if ok then done else out_of_range) else out_of_range
 
 unfoldable pub outcome_of : Channel → List ℕ → ℕ → Op → Served
 outcome_of c m number op = guarded (range_number (length m) (in_range c)) c m (served_by c m number op)

@@ -1,6 +1,5 @@
 -- Document 01, 'A sequence on the wires': what a frame's begin, each event and a frame's end do to a channel.
-use Rattle.std.specs.Prelude.{ℕ, ◌+◌, Bool, false, List, get_or, set, replicate}
-use Rattle.laws.specs.Pick.{when◌then◌else◌}
+use Rattle.std.specs.Prelude.{ℕ, ◌+◌, Bool, false, List, get_or, set, replicate, if◌then◌else◌}
 use Rattle.rules.specs.declared.state.Phase.TheVariants.{Address, Sending}
 use Rattle.rules.specs.Numbers.{not_begun, underway, done_status, address_refused, data_refused, past_buffer, not_awaited}
 use Rattle.rules.specs.Tables.{start_of, fitting, reads_of, first_sent, marked}
@@ -118,7 +117,7 @@ abbrev pub ack_write : Channel → List ℕ → ℕ → Stepped
 ack_write c m n = send_on c m n 0 (next_of (halt_of c.head) 0 (length_of c n))
 
 unfoldable pub ack_address : Channel → List ℕ → ℕ → Stepped
-ack_address c m n = when reads_of (slave_of c n) then on c (clocked c.head n) else ack_write c m n
+ack_address c m n = if reads_of (slave_of c n) then on c (clocked c.head n) else ack_write c m n
 
 -- ACK in Sending: BYTECOUNT plus one; next byte, or done
 unfoldable pub ack_sending : Channel → List ℕ → ℕ → Stepped
@@ -140,7 +139,7 @@ received c m n b = record {
 
 -- unmasked: P, an error end; masked: next transaction
 unfoldable pub failed_by : Channel → ℕ → Bool → Stepped
-failed_by c n masked = when masked then onward c n Plain else on c (failed c.head)
+failed_by c n masked = if masked then onward c n Plain else on c (failed c.head)
 
 unfoldable pub nacked : Channel → ℕ → ℕ → Stepped
 nacked c n v =

@@ -2,7 +2,7 @@
 ghost use Rattle.std.specs.Prelude.{◌≡◌, ◌+◌, ◌<◌, ◌≤◌, length, get_or, set};
 ghost use Rattle.rules.specs.Numbers.{buffer_size};
 ghost use Rattle.rules.specs.Facts.{Known, KnownPlace};
-ghost use Rattle.head.specs.State.{fresh_head, plain};
+ghost use Rattle.head.specs.State.{fresh_head, plain, answer_by};
 ghost use Rattle.head.specs.Access.{read_refusal, refusal_of};
 ghost use Rattle.channel.specs.State.{fresh, zeros, leaving, on, stepped};
 ghost use Rattle.channel.specs.Access.{read_by, asked, controlled, written_by};
@@ -14,7 +14,7 @@ use head::Answer;
 use rules::{Command, Refusal, Register};
 use sequence::{Ask, Ending};
 
-// ---- an access at a pointer, which it moves by one
+// ---- an access at a pointer, which it moves by one. The pointers are the head's and the tables the channel's, so each is lent by itself
 
 fn take(at: &mut usize, table: &[u8]) -> u8
     requires { at.old < length table.now }
@@ -59,17 +59,15 @@ impl Channel {
     }
 
     // A read at a place.
-    pub(crate) fn read(&mut self, mem: &[u8], place: Option<Register>) -> Answer
+    pub(crate) fn read(&mut self, mem: &[u8], place: Option<Register>) -> Result<Answer, Refusal>
         requires { Accepted self.old mem.now × KnownPlace place }
-        ensures { leaving mem.now (stepped self.new result) ≡ read_at self.old mem.now place }
+        ensures { leaving mem.now (stepped self.new (answer_by result)) ≡ read_at self.old mem.now place }
     {
         let Some(reg) = place else {
-            return Answer::refused(Refusal::Nowhere);
+            return Err(Refusal::Nowhere);
         };
-        if let Err(e) = self.head.read_refusal(&self.tranconfig, reg) {
-            return Answer::refused(e);
-        }
-        self.read_by(mem, reg)
+        self.head.read_refusal(&self.tranconfig, reg)?;
+        Ok(self.read_by(mem, reg))
     }
 
     // ---- a write to CONTROL
@@ -136,21 +134,24 @@ impl Channel {
     }
 
     // A write at a place: the reset by the key, or the write, after which the key is A5h at PRESET or none.
-    pub(crate) fn write(&mut self, mem: &mut [u8], place: Option<Register>, v: u8) -> Answer
+    pub(crate) fn write(
+        &mut self,
+        mem: &mut [u8],
+        place: Option<Register>,
+        v: u8,
+    ) -> Result<Answer, Refusal>
         requires { Accepted self.old mem.old × KnownPlace place }
-        ensures { leaving mem.new (stepped self.new result) ≡ write_at self.old mem.old place v }
+        ensures { leaving mem.new (stepped self.new (answer_by result)) ≡ write_at self.old mem.old place v }
     {
         let Some(reg) = place else {
-            return Answer::refused(Refusal::Nowhere);
+            return Err(Refusal::Nowhere);
         };
         let preset = rules::is_preset(reg);
         if rules::resets(preset, v, self.head.key) {
-            return self.reset(mem);
+            return Ok(self.reset(mem));
         }
         self.head.key = rules::key_after(preset, v);
-        if let Err(e) = self.head.refusal(&self.tranconfig, reg, v) {
-            return Answer::refused(e);
-        }
-        self.write_by(mem, reg, v)
+        self.head.refusal(&self.tranconfig, reg, v)?;
+        Ok(self.write_by(mem, reg, v))
     }
 }

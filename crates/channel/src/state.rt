@@ -7,6 +7,7 @@ use head::{Answer, Head};
 use rules::Straps;
 
 // A channel: its head, and its tables, statuses and counts.
+// Each table is an array, and there is no array of transactions: document 01's 'SLATABLE (64 bytes), TRANCONFIG (65)'.
 #[derive(Clone, Copy, PartialEq, Eq)]
 pub struct Channel {
     pub slatable: [u8; 64],
@@ -37,7 +38,7 @@ impl Channel {
         }
     }
 
-    // The record with an answer's number and nothing else.
+    // The record with an answer's number and nothing else. Any number, 0 too, as the definition `refused` has it; `Part::answer` has another record.
     pub fn answer(self, number: u8) -> Stepped
         ensures { result ≡ on self (refused self.head number) }
     {

@@ -6,9 +6,11 @@ ghost use Rattle.rules.specs.Numbers.{buffer_size};
 ghost use Rattle.rules.specs.Tables.{start_of};
 ghost use Rattle.rules.specs.Facts.{Running};
 ghost use Rattle.sequence.specs.Facts.{Counting, Exists, Ready};
+ghost use Rattle.sequence.specs.Wires.{next_of};
+ghost use Rattle.head.specs.Head.{halt_of};
 ghost use Rattle.channel.specs.State.{leaving, stepped};
 ghost use Rattle.channel.specs.Range.{in_range};
-ghost use Rattle.channel.specs.Wires.{sent_to, started_by, started, cleared, began_by, begun, moved_to, onward, finished, byte_sent, send_on, ack_write, ack_address, ack_sending};
+ghost use Rattle.channel.specs.Wires.{length_of, bytes_of, counted_one, sent_to, started_by, started, cleared, began_by, begun, moved_to, onward, finished, byte_sent, send_on, ack_write, ack_address, ack_sending};
 ghost use Rattle.channel.specs.Wires.{receive_on, received, failed_by, nacked, turned, beaten, triggered};
 ghost use Rattle.channel.specs.Facts.{Meets};
 
@@ -113,6 +115,20 @@ impl Channel {
         self.onward(n, t)
     }
 
+    // BYTECOUNT plus one, and what the byte after it is.
+    fn count(&mut self, n: usize) -> Next
+        requires { Counting self.old.tranconfig self.old.bytecount n }
+        ensures { (self.new ≡ counted_one self.old n) × (result ≡ next_of (halt_of self.old.head) (bytes_of self.old n + 1) (length_of self.old n))
+            × Ready result (bytes_of self.old n + 1) (length_of self.old n) }
+    {
+        self.bytecount[n] += 1;
+        sequence::next_byte(
+            self.head.halts(),
+            rules::byte(self.bytecount[n]),
+            rules::byte(self.tranconfig[n + 1]),
+        )
+    }
+
     // ---- ACK
 
     fn send_byte(&mut self, mem: &[u8], n: usize, k: usize) -> Answer
@@ -158,11 +174,8 @@ impl Channel {
         requires { Counting self.old.tranconfig self.old.bytecount n × (length mem.now ≡ buffer_size) }
         ensures { stepped self.new result ≡ ack_sending self.old mem.now n }
     {
-        let len = rules::byte(self.tranconfig[n + 1]);
-        let k = rules::byte(self.bytecount[n]) + 1;
-        let x = sequence::next_byte(self.head.halts(), k, len);
-        sequence::count_one(&mut self.bytecount, n);
-        self.send_on(mem, n, k, x)
+        let x = self.count(n);
+        self.send_on(mem, n, rules::byte(self.bytecount[n]), x)
     }
 
     // ---- BYTE
@@ -183,10 +196,7 @@ impl Channel {
         ensures { leaving mem.new (stepped self.new result) ≡ received self.old mem.old n b }
     {
         sequence::store(&self.tranconfig, &self.bytecount, mem, n, b);
-        let len = rules::byte(self.tranconfig[n + 1]);
-        let k = rules::byte(self.bytecount[n]) + 1;
-        let x = sequence::next_byte(self.head.halts(), k, len);
-        sequence::count_one(&mut self.bytecount, n);
+        let x = self.count(n);
         self.receive_on(n, x)
     }
 
@@ -251,7 +261,11 @@ impl Channel {
         requires { in_range self.old ≡ true }
         ensures { stepped self.new result ≡ triggered self.old edge }
     {
-        let g = self.head.regs;
-        self.beat(sequence::edge_beat(self.head.walk.phase, g.te, g.tp, edge))
+        self.beat(sequence::edge_beat(
+            self.head.walk.phase,
+            self.head.regs.te,
+            self.head.regs.tp,
+            edge,
+        ))
     }
 }

@@ -50,6 +50,7 @@ struct Letters(Action);
 impl fmt::Display for Letters {
     fn fmt<W: fmt::Write>(&self, f: &mut fmt::Formatter<W>) -> fmt::Result {
         let text = letters::spell(self.0);
+        // byte by byte, as `Text` has them
         for &letter in &text.bytes[..text.len] {
             f.write_char(letter as char)?;
         }

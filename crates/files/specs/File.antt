@@ -1,6 +1,5 @@
 -- Document 02, request Five: the sequence file. A header of 12 bytes and three blocks.
-use Rattle.std.specs.Prelude.{ℕ, ◌+◌, ◌*◌, ◌/◌, ◌%◌, ◌≤◌, List, [], ◌∷◌, ◌++◌, Result, Ok, Err, ◌≡◌, bytes_eq, ltb, length, get_or, take, drop}
-use Rattle.laws.specs.Pick.{when◌then◌else◌}
+use Rattle.std.specs.Prelude.{ℕ, ◌+◌, ◌*◌, ◌/◌, ◌%◌, ◌≤◌, List, [], ◌∷◌, ◌++◌, Result, Ok, Err, ◌≡◌, bytes_eq, ltb, length, get_or, take, drop, if◌then◌else◌}
 use Rattle.rules.specs.Numbers.{buffer_size, done, not_a_file}
 use Rattle.files.specs.declared.format.Fault.{Fault}
 use Rattle.files.specs.declared.format.Fault.TheVariants.{NoHeader, Crowded, Short, Overfull, Longer, Forged}
@@ -62,21 +61,21 @@ data_in f = drop (2 * count_in f) (body_of f)
 
 -- the header is the one that its count and the summed lengths force
 unfoldable pub headed : List ℕ → ℕ → ℕ → Result (Unit {0}) Fault
-headed f n s = when bytes_eq (take 12 f) (header_of n s) then Ok tt else Err Forged
+headed f n s = if bytes_eq (take 12 f) (header_of n s) then Ok tt else Err Forged
 
 -- lengths that sum above 4,352 can't be loaded; the data are as many bytes as the lengths say, and no byte follows
 unfoldable pub body_fault : List ℕ → ℕ → ℕ → Result (Unit {0}) Fault
 body_fault f n s =
-    when ltb buffer_size s then Err Overfull else
-    when ltb (length f) (12 + 2 * n + s) then Err Short else
-    when ltb (12 + 2 * n + s) (length f) then Err Longer else headed f n s
+    if ltb buffer_size s then Err Overfull else
+    if ltb (length f) (12 + 2 * n + s) then Err Short else
+    if ltb (12 + 2 * n + s) (length f) then Err Longer else headed f n s
 
 -- what is wrong with a file, the first that applies
 unfoldable pub fault_of : List ℕ → Result (Unit {0}) Fault
 fault_of f =
-    when ltb (length f) 12 then Err NoHeader else
-    when ltb 64 (count_in f) then Err Crowded else
-    when ltb (length f) (12 + 2 * count_in f) then Err Short else body_fault f (count_in f) (total (lengths_in f))
+    if ltb (length f) 12 then Err NoHeader else
+    if ltb 64 (count_in f) then Err Crowded else
+    if ltb (length f) (12 + 2 * count_in f) then Err Short else body_fault f (count_in f) (total (lengths_in f))
 
 -- and the number that it gives a read
 abbrev pub fault_number : Result (Unit {0}) Fault → ℕ

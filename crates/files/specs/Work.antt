@@ -1,6 +1,5 @@
 -- Document 02, request Five: a file written from an Idle channel's first count transactions, and read into an Idle channel. Both are works of a channel, with the file's buffer.
-use Rattle.std.specs.Prelude.{ℕ, ◌+◌, ◌*◌, List, ◌∷◌, ltb, get_or, take, drop, replicate}
-use Rattle.laws.specs.Pick.{when◌then◌else◌}
+use Rattle.std.specs.Prelude.{ℕ, ◌+◌, ◌*◌, List, ◌∷◌, ltb, get_or, take, drop, replicate, if◌then◌else◌}
 use Rattle.rules.specs.Numbers.{done, no_room}
 use Rattle.rules.specs.Tables.{sum_of, fitting}
 use Rattle.head.specs.declared.state.Head.{Head}
@@ -60,4 +59,4 @@ size_of lens = 12 + 2 * get_or lens 0 0 + sum_of lens
 
 -- 11 when the output buffer is shorter than the file or the lengths sum above 4,352
 unfoldable pub room_number : List ℕ → ℕ → ℕ
-room_number lens room = when fitting lens then (when ltb room (size_of lens) then no_room else done) else no_room
+room_number lens room = if fitting lens then (if ltb room (size_of lens) then no_room else done) else no_room

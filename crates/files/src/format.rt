@@ -113,6 +113,7 @@ fn body_fault(file: &[u8], n: usize, s: usize) -> Result<(), Fault>
 }
 
 // What is wrong with a file, the first that applies.
+#[tactic(auto, using(laws::specs::Cases::cases), unfolding(crate::specs::File::fault_of))]
 pub fn fault_of(file: &[u8]) -> Result<(), Fault>
     ensures { result ≡ fault_of file.now }
 {
@@ -133,22 +134,12 @@ pub fn fault_of(file: &[u8]) -> Result<(), Fault>
 
 // ---- bytes moved: each once, from slice to slice
 
-// Puts x; the bytes behind it stay.
-pub(crate) fn copy(x: &[u8], out: &mut [u8]) -> usize
-    requires { length x.now ≤ length out.old }
-    ensures len { result ≡ length x.now }
-    ensures put { out.new ≡ over x.now out.old }
-{
-    let n = x.len();
-    out[..n].copy_from_slice(x);
-    n
-}
-
 // Puts x and then y; the bytes behind them stay.
 pub(crate) fn put_two(out: &mut [u8], x: &[u8], y: &[u8])
     requires { length x.now + length y.now ≤ length out.old }
     ensures { out.new ≡ over (x.now ++ y.now) out.old }
 {
-    let n = copy(x, out);
-    copy(y, &mut out[n..]);
+    let (front, rest) = out.split_at_mut(x.len());
+    front.copy_from_slice(x);
+    rest[..y.len()].copy_from_slice(y);
 }

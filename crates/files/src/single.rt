@@ -1,4 +1,5 @@
 // A file read into a single channel, and written from one: the record by value, and its 4,352 bytes.
+// `load` and `save` answer no. 9 themselves: for a `?` each would need one function more, and a contract of that.
 ghost use Rattle.std.specs.Prelude.{◌++◌, ◌≡◌, ◌+◌, ◌≤◌, true, length, replicate};
 ghost use Rattle.rules.specs.Numbers.{buffer_size, number_of};
 ghost use Rattle.channel.specs.Facts.{Accepted};
@@ -10,7 +11,7 @@ ghost use Rattle.files.specs.Work.{rewound_head, loaded, loaded_bytes, file_from
 ghost use Rattle.files.specs.Deeds.{load_deed, save_deed, load_work, save_work};
 ghost use Rattle.files.specs.Facts.{Filed};
 
-use crate::format::{HEADER, copy, count, fault_of, header, put_two};
+use crate::format::{HEADER, count, fault_of, header, put_two};
 use channel::{Channel, Stepped, range_number};
 use head::Head;
 use rules::{BUFFER, Refusal, busy_refusal, number_of, start_of};
@@ -22,8 +23,9 @@ fn fill(mem: &mut [u8], content: &[u8])
     requires { length content.now ≤ length mem.old }
     ensures { mem.new ≡ over content.now (replicate (length mem.old) 0) }
 {
-    let n = copy(content, mem);
-    mem[n..].fill(0);
+    let (front, rest) = mem.split_at_mut(content.len());
+    front.copy_from_slice(content);
+    rest.fill(0);
 }
 
 fn rewind(h: &mut Head)
@@ -85,6 +87,7 @@ fn put_file(out: &mut [u8], head: &[u8], addresses: &[u8], lengths: &[u8], conte
 }
 
 // Writes the file of the first count transactions.
+#[tactic(auto, using(crate::proofs::Laws::Calls::count_few))]
 fn save_tables(c: &Channel, mem: &[u8], out: &mut [u8])
     requires { Accepted c.now mem.now × (room_number c.now.tranconfig (length out.old) ≡ 0) }
     ensures { out.new ≡ over (file_from (own_by c.now mem.now)) out.old }
@@ -101,6 +104,7 @@ fn save_tables(c: &Channel, mem: &[u8], out: &mut [u8])
     );
 }
 
+#[tactic(auto, using(laws::specs::Cases::cases, crate::proofs::Laws::Calls::count_few), unfolding(crate::specs::Work::room_number, rules::specs::Tables::fitting))]
 fn room_refusal(c: &Channel, room: usize) -> Result<(), Refusal>
     requires { in_range c.now ≡ true }
     ensures { number_of result ≡ room_number c.now.tranconfig room }
@@ -126,6 +130,7 @@ pub(crate) fn save_sound(c: &Channel, mem: &[u8], out: &mut [u8]) -> Result<(), 
 }
 
 // Writes the file of an Idle channel's first count transactions, at any record, any memory and any output.
+// `save` and `load` share no function over a closure: it would spare three lines, and have to promise what a closure leaves in the bytes that it has captured.
 pub fn save(c: Channel, mem: &[u8], out: &mut [u8]) -> Stepped
     ensures { (result ≡ (alone_by (save_work out.old) c mem.now).stepped) × (out.new ≡ (alone_by (save_work out.old) c mem.now).out) }
 {

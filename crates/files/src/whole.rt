@@ -1,4 +1,5 @@
 // A file read into a channel of the part, and written from one: a step of that channel, with the file's buffer.
+// `load_into` and `save_from` answer a refusal themselves: for a `?` each would need one function more, and a contract of that.
 ghost use Rattle.std.specs.Prelude.{◌≡◌};
 ghost use Rattle.rules.specs.Numbers.{number_of};
 ghost use Rattle.works.specs.Facts.{call_number};

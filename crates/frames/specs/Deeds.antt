@@ -1,6 +1,5 @@
 -- What a step is to channel c: an event that it answers, a reset, a frame's begin.
-use Rattle.std.specs.Prelude.{ℕ, Bool, true, false, eqb, Option, Some, None}
-use Rattle.laws.specs.Pick.{when◌then◌else◌}
+use Rattle.std.specs.Prelude.{ℕ, Bool, true, false, eqb, Option, Some, None, if◌then◌else◌}
 use Rattle.rules.specs.declared.state.Phase.{Phase}
 use Rattle.rules.specs.declared.state.Phase.TheVariants.{Idle, Address, Sending, Receiving, Stopping, Waiting}
 use Rattle.rules.specs.declared.registers.Command.{Command}
@@ -39,10 +38,10 @@ use Rattle.frames.specs.Wire.Heard.{none, event}
 unfoldable pub heard_op : Op → ℕ → Heard
 heard_op (Write a v) number = none
 heard_op (Read a) number = none
-heard_op (Wire e) number = when eqb number done then event e else none
+heard_op (Wire e) number = if eqb number done then event e else none
 
 unfoldable pub heard_by : ℕ → Target → ℕ → Heard
-heard_by c (One op d) number = when eqb d c then heard_op op number else none
+heard_by c (One op d) number = if eqb d c then heard_op op number else none
 heard_by c (All t) number = none
 
 -- ---- a reset of channel c: A5h and then 5Ah at its PRESET or at CTRLPRESET, or the hardware reset
@@ -63,7 +62,7 @@ all_resets p (AllReset d) = true
 all_resets p Beyond = false
 
 unfoldable pub resets_by : ℕ → Part → Target → Bool
-resets_by c p (One op d) = when eqb d c then op_resets (chan p c) c op else false
+resets_by c p (One op d) = if eqb d c then op_resets (chan p c) c op else false
 resets_by c p (All t) = all_resets p t
 
 -- ---- a step that asks channel c for a frame: STA, TICK or a trigger edge, where the rules say so
@@ -112,7 +111,7 @@ is_control (Setting n) = false
 is_control Preset = false
 
 abbrev pub reg_begins : Channel → Register → ℕ → Bool
-reg_begins c reg v = when is_control reg then ask_begins (ask_at c (command_of v)) else false
+reg_begins c reg v = if is_control reg then ask_begins (ask_at c (command_of v)) else false
 
 abbrev pub place_begins : Channel → Option Register → ℕ → Bool
 place_begins c (Some reg) v = reg_begins c reg v
@@ -131,7 +130,7 @@ all_begins c (AllReset d) = false
 all_begins c Beyond = false
 
 unfoldable pub asks_by : ℕ → Part → Target → Bool
-asks_by c p (One op d) = when eqb d c then op_begins (chan p c) c op else false
+asks_by c p (One op d) = if eqb d c then op_begins (chan p c) c op else false
 asks_by c p (All t) = all_begins (chan p c) t
 
 -- ---- it begins where the count isn't 0 and the lengths fit
@@ -144,7 +143,7 @@ abbrev pub may_begin : Channel → Bool
 may_begin c = fit_of (beginning_of (count_of c) (fitting c.tranconfig))
 
 unfoldable pub begins_by : ℕ → Part → Target → Bool
-begins_by c p t = when asks_by c p t then may_begin (chan p c) else false
+begins_by c p t = if asks_by c p t then may_begin (chan p c) else false
 
 -- ---- a frame is under way
 abbrev pub runs_of : Phase → Bool

@@ -3,8 +3,7 @@
 -- the frame began; bytes sent by a write are the buffer's bytes in order.
 -- A reader has to believe this page, the logger (Wire.antt), what a step is to a channel (Deeds.antt), and the rules of a step that the contract of `Part::step` cites
 -- (crate part, specs/Step.antt). proofs/Theorem.antt says what is proved; the last lines of each statement there and all of proofs/Laws/ are proof.
-use Rattle.std.specs.Prelude.{ℕ, ◌+◌, ◌<◌, ◌≤◌, Bool, true, false, List, [], ◌∷◌, ◌≡◌, length, get_or, replicate}
-use Rattle.laws.specs.Pick.{when◌then◌else◌}
+use Rattle.std.specs.Prelude.{ℕ, ◌+◌, ◌<◌, ◌≤◌, Bool, true, false, List, [], ◌∷◌, ◌≡◌, length, get_or, replicate, if◌then◌else◌}
 use Rattle.rules.specs.declared.state.Phase.TheVariants.{Idle, Address}
 use Rattle.rules.specs.Numbers.{done}
 use Rattle.rules.specs.Tables.{start_of, sum_of, fitting, reads_of}
@@ -13,7 +12,6 @@ use Rattle.rules.specs.declared.wires.Action.TheVariants.{Nothing, S}
 use Rattle.rules.specs.declared.wires.Event.{Event}
 use Rattle.steps.specs.declared.map.Step.TheVariants.{Wire}
 use Rattle.steps.specs.declared.map.Target.{Target}
-use Rattle.steps.specs.declared.answer.Act.{Act}
 use Rattle.steps.specs.declared.answer.PartAnswer.{PartAnswer}
 use Rattle.head.specs.Head.{kind_of}
 use Rattle.channel.specs.declared.state.Channel.{Channel}
@@ -36,8 +34,8 @@ abbrev pub buffer_of : ℕ → State → List ℕ
 buffer_of c s = window c s.memory
 
 -- the action of channel c in an answer
-abbrev pub action_at : ℕ → List Act → Action
-action_at c l = (get_or l c (record { action = Nothing })).action
+abbrev pub action_at : ℕ → List Action → Action
+action_at c l = get_or l c Nothing
 
 -- it is as a reset leaves a channel of its kind
 abbrev pub Fresh : Channel → Type 0
@@ -85,19 +83,19 @@ module _ {A : Type 0} (M : Machine State A PartAnswer) (aim : A → Target) (c :
   -- of a run, the steps of the frame: up to the event that ends it, or to a reset of the channel
   unfoldable pub frame_of : State → List A → List A
   frame_of s [] = []
-  frame_of s (a ∷ l) = when resets_by c s.part (aim a) then [] else a ∷ (when ends_of (entry_at s a).heard then [] else frame_of (M.after s a) l)
+  frame_of s (a ∷ l) = if resets_by c s.part (aim a) then [] else a ∷ (if ends_of (entry_at s a).heard then [] else frame_of (M.after s a) l)
 
   -- after these it is not over
   unfoldable pub runs_on : State → List A → Bool
   runs_on s [] = true
-  runs_on s (a ∷ l) = when resets_by c s.part (aim a) then true else (when ends_of (entry_at s a).heard then false else runs_on (M.after s a) l)
+  runs_on s (a ∷ l) = if resets_by c s.part (aim a) then true else (if ends_of (entry_at s a).heard then false else runs_on (M.after s a) l)
 
   -- of a run, the steps up to the next begin or reset of the channel
   unfoldable pub until_next : State → List A → List A
   until_next s [] = []
   until_next s (a ∷ l) =
-      when resets_by c s.part (aim a) then [] else
-      (when begins_by c s.part (aim a) then [] else a ∷ until_next (M.after s a) l)
+      if resets_by c s.part (aim a) then [] else
+      (if begins_by c s.part (aim a) then [] else a ∷ until_next (M.after s a) l)
 
   -- each action of the run carries what it must, with the buffer of that moment
   abbrev pub Momentary : Slaves → List ℕ → State → Watch → List A → Type 0

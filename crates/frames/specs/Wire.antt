@@ -1,7 +1,6 @@
 -- What a logger on the wires of one channel has, and what it counts. It sees the events that were answered 0, the actions, the channel's kind and the two
 -- tables; it sees neither the phase nor BYTECOUNT.
-use Rattle.std.specs.Prelude.{ℕ, ◌+◌, ◌<◌, Bool, true, false, List, [], ◌∷◌, ◌≡◌, eqb, get_or}
-use Rattle.laws.specs.Pick.{when◌then◌else◌}
+use Rattle.std.specs.Prelude.{ℕ, ◌+◌, ◌<◌, Bool, true, false, List, [], ◌∷◌, ◌≡◌, eqb, get_or, if◌then◌else◌}
 use Rattle.rules.specs.declared.parts.Kind.{Kind}
 use Rattle.rules.specs.Tables.{start_of, reads_of, first_sent}
 use Rattle.rules.specs.declared.wires.Event.{Event}
@@ -114,7 +113,7 @@ data_heard w (event Sent) = w.out
 
 -- 1 where it is one of transaction k
 unfoldable pub one_of : Bool → ℕ → ℕ → ℕ
-one_of heard at k = when heard then (when eqb at k then 1 else 0) else 0
+one_of heard at k = if heard then (if eqb at k then 1 else 0) else 0
 
 -- the data bytes of transaction k that were acknowledged or received
 abbrev pub acknowledged : Slaves → List ℕ → ℕ → Watch → List Entry → ℕ
@@ -126,7 +125,7 @@ abbrev pub with_data : Bool → Action → List ℕ → List ℕ
 with_data here Nothing l = l
 with_data here (S x) l = l
 with_data here (R x) l = l
-with_data here (D b) l = when here then b ∷ l else l
+with_data here (D b) l = if here then b ∷ l else l
 with_data here C l = l
 with_data here A l = l
 with_data here Np l = l

@@ -1,7 +1,6 @@
 -- Document 01, 'Numbers that an answer carries' and 'Table accesses', as far as they need no table, or TRANCONFIG alone: the settings, what refuses a read or
 -- a write, and what CONTROL, TRANSEL and TRANOFS do to the head.
-use Rattle.std.specs.Prelude.{ℕ, ◌+◌, Bool, List, eqb}
-use Rattle.laws.specs.Pick.{when◌then◌else◌}
+use Rattle.std.specs.Prelude.{ℕ, ◌+◌, Bool, List, eqb, if◌then◌else◌}
 use Rattle.rules.specs.declared.registers.Command.{Command}
 use Rattle.rules.specs.declared.state.Ptrs.{Ptrs}
 use Rattle.rules.specs.declared.registers.Register.{Register}
@@ -19,15 +18,15 @@ use Rattle.head.specs.Head.{data_to, place_to, mode_to}
 -- ---- settings 0 to 5: FRAMECNT, REFRATE, SCLL, SCLH, MODE and TIMEOUT
 unfoldable pub setting_of : Settings → ℕ → ℕ
 setting_of s n =
-    when eqb n 0 then s.framecnt else
-    (when eqb n 1 then s.refrate else
-    (when eqb n 2 then s.scll else
-    (when eqb n 3 then s.sclh else
-    (when eqb n 4 then s.mode else s.timeout))))
+    if eqb n 0 then s.framecnt else
+    (if eqb n 1 then s.refrate else
+    (if eqb n 2 then s.scll else
+    (if eqb n 3 then s.sclh else
+    (if eqb n 4 then s.mode else s.timeout))))
 
 -- v in the place of one of them
 abbrev pub either_at : ℕ → ℕ → ℕ → ℕ → ℕ
-either_at n k v old = when eqb n k then v else old
+either_at n k v old = if eqb n k then v else old
 
 unfoldable pub setting_set : Settings → ℕ → ℕ → Settings
 setting_set s n v = record {

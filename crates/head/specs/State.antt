@@ -1,5 +1,5 @@
 -- Words for the head of a channel: a part of it replaced, the reset values, and what a step answers.
-use Rattle.std.specs.Prelude.{ℕ, Bool, false}
+use Rattle.std.specs.Prelude.{ℕ, Bool, false, Result, Ok, Err}
 use Rattle.rules.specs.declared.parts.Kind.{Kind}
 use Rattle.rules.specs.declared.parts.Kind.TheVariants.{Fm, Ufm}
 use Rattle.rules.specs.declared.parts.Straps.{Straps}
@@ -7,7 +7,8 @@ use Rattle.rules.specs.declared.state.Regs.{Regs}
 use Rattle.rules.specs.declared.state.Flags.{Flags}
 use Rattle.rules.specs.declared.state.Ptrs.{Ptrs}
 use Rattle.rules.specs.declared.state.Walk.{Walk}
-use Rattle.rules.specs.Numbers.{done}
+use Rattle.rules.specs.declared.numbers.Refusal.{Refusal}
+use Rattle.rules.specs.Numbers.{done, refusal_number}
 use Rattle.rules.specs.declared.wires.Action.{Action}
 use Rattle.rules.specs.declared.wires.Action.TheVariants.{Nothing}
 use Rattle.sequence.specs.Walk.{idle, no_flags}
@@ -73,6 +74,11 @@ valued v = answer_of done v Nothing
 -- done, with an action
 abbrev pub acting : Action → Answer
 acting a = answer_of done 0 a
+
+-- what answers: that, or the number of what refuses
+abbrev pub answer_by : Result Answer Refusal → Answer
+answer_by (Ok a) = a
+answer_by (Err e) = numbered (refusal_number e)
 
 -- ---- what a step makes of a head, and what it answers
 pub record Headed : Type 0 where

@@ -9,8 +9,9 @@ ghost use Rattle.head.specs.State.{headed, replied, with_flags};
 ghost use Rattle.head.specs.Access.{setting_of, setting_set, read_refusal, control_of, data_place, moded, pointed, refusal_of, selected, offset};
 
 use crate::state::{Answer, Head, Settings};
-use rules::{Command, Ptrs, Refusal, Register};
+use rules::{BUFFER, Command, Refusal, Register};
 
+// By number, as `Register::Setting` has them.
 impl Settings {
     #[tactic(auto, using(laws::specs::Cases::cases), unfolding(crate::specs::Access::setting_of))]
     pub fn get(&self, n: usize) -> u8
@@ -62,11 +63,10 @@ impl Head {
     pub fn control(&self) -> u8
         ensures { result ≡ control_of self.now }
     {
-        let w = self.walk;
         rules::control_value(
-            w.seq,
-            rules::active(w.phase),
-            w.sto,
+            self.walk.seq,
+            rules::active(self.walk.phase),
+            self.walk.sto,
             self.regs.tp,
             self.regs.te,
         )
@@ -83,12 +83,14 @@ impl Head {
 
     // ---- a write to CONTROL
 
+    #[tactic(auto, using(laws::specs::Cases::cases), unfolding(rules::specs::Access::kept_if))]
     pub fn set_modes(&mut self, k: Command)
         ensures { self.new ≡ moded self.old k }
     {
-        let active = rules::active(self.walk.phase);
-        self.regs.tp = rules::kept_if(active, self.regs.tp, k.tp);
-        self.regs.te = rules::kept_if(active, self.regs.te, k.te);
+        if !rules::active(self.walk.phase) {
+            self.regs.tp = k.tp;
+            self.regs.te = k.te;
+        }
     }
 
     pub fn data_place(&self, lens: &[u8; 65]) -> usize
@@ -98,16 +100,18 @@ impl Head {
         rules::start_of(lens, self.regs.transel as usize) + self.regs.tranofs as usize
     }
 
+    #[tactic(auto, using(laws::specs::Cases::cases), unfolding(rules::specs::Access::rewound, rules::specs::Access::pointed_at, rules::specs::Access::at_most))]
     pub fn set_pointers(&mut self, k: Command, place: usize)
         ensures { self.new ≡ pointed self.old k place }
     {
-        let p = self.ptrs;
-        self.ptrs = Ptrs {
-            sla: rules::rewind(k.aiptrrst, p.sla),
-            conf: rules::rewind(k.aiptrrst, p.conf),
-            buf: rules::point_at(k.aiptrrst, place, p.buf),
-            count: rules::rewind(k.bptrrst, p.count),
-        };
+        if k.aiptrrst {
+            self.ptrs.sla = 0;
+            self.ptrs.conf = 0;
+            self.ptrs.buf = place.min(BUFFER);
+        }
+        if k.bptrrst {
+            self.ptrs.count = 0;
+        }
     }
 
     // ---- writes

@@ -1,7 +1,7 @@
 // The head of a channel, and what a step answers.
 ghost use Rattle.std.specs.Prelude.{◌≡◌};
 ghost use Rattle.rules.specs.Numbers.{done, refusal_number};
-ghost use Rattle.head.specs.State.{settings_of, fresh_head, numbered, valued, acting};
+ghost use Rattle.head.specs.State.{settings_of, fresh_head, numbered, valued, acting, answer_by};
 
 use rules::{Action, DONE, Flags, Kind, Ptrs, Refusal, Regs, Straps, Walk};
 
@@ -17,7 +17,7 @@ pub struct Settings {
 }
 
 // A channel without its tables: its registers and settings, flags, pointers, the walk of its sequence, whether A5h was written to PRESET, and what the hardware
-// reset chose.
+// reset chose, in the order that is fastest (docs/SPEED.md).
 #[derive(Clone, Copy, PartialEq, Eq)]
 pub struct Head {
     pub regs: Regs,
@@ -29,7 +29,7 @@ pub struct Head {
     pub walk: Walk,
 }
 
-// The number of document 01, the value of a read, and the action.
+// The number of document 01, the value of a read, and the action. A number and no `Result`: document 01 has it as a byte of the answer.
 #[derive(Clone, Copy, PartialEq, Eq)]
 pub struct Answer {
     pub number: u8,
@@ -61,14 +61,20 @@ impl Answer {
         Answer::numbered(e.number())
     }
 
+    // What answers, or the refusal.
+    pub fn by(outcome: Result<Answer, Refusal>) -> Self
+        ensures { result ≡ answer_by outcome }
+    {
+        outcome.unwrap_or_else(Answer::refused)
+    }
+
     // The value of a read.
     pub fn reply(value: u8) -> Self
         ensures { result ≡ valued value }
     {
         Answer {
-            number: DONE,
             value,
-            action: Action::Nothing,
+            ..Answer::done()
         }
     }
 
@@ -76,9 +82,8 @@ impl Answer {
         ensures { result ≡ acting action }
     {
         Answer {
-            number: DONE,
-            value: 0,
             action,
+            ..Answer::done()
         }
     }
 }

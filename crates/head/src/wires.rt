@@ -37,10 +37,15 @@ impl Head {
         Answer::act(Action::C)
     }
 
+    #[tactic(auto, using(laws::specs::Cases::cases), unfolding(sequence::specs::Walk::nack_flags))]
     pub fn note(&mut self, read: bool)
         ensures { self.new ≡ noted self.old read }
     {
-        self.flags = sequence::nack_flags(self.flags, read);
+        if read {
+            self.flags.re = true;
+        } else {
+            self.flags.we = true;
+        }
     }
 
     #[tactic(auto, unfolding(crate::specs::Head::failed, crate::specs::Head::stopped))]
@@ -51,27 +56,48 @@ impl Head {
         self.stop(Action::P)
     }
 
+    #[tactic(auto, using(laws::specs::Cases::cases), unfolding(sequence::specs::Walk::late_flags, sequence::specs::Walk::late_walk))]
     pub fn be_late(&mut self)
         ensures { self.new ≡ late_by self.old }
     {
-        let femsk = rules::bit(self.regs.intmsk, FEMSK);
-        self.flags = sequence::late_flags(self.flags, femsk);
-        self.walk = sequence::late_walk(self.walk, femsk);
+        if rules::bit(self.regs.intmsk, FEMSK) {
+            self.flags.fe = true;
+        } else {
+            self.walk.fe = true;
+        }
     }
 
+    #[tactic(auto, using(laws::specs::Cases::cases), unfolding(sequence::specs::Walk::fault_flags))]
     pub fn fault(&mut self, f: Fault)
         ensures { self.new ≡ faulted self.old f }
     {
-        self.flags = sequence::fault_flags(self.flags, f);
+        match f {
+            Fault::Dae => self.flags.dae = true,
+            Fault::Cle => self.flags.cle = true,
+            Fault::Sse => self.flags.sse = true,
+        }
         self.walk = sequence::idle_walk();
     }
 
     // ---- the frame's end
 
+    #[tactic(auto, using(laws::specs::Cases::cases), unfolding(sequence::specs::Walk::end_flags))]
     pub fn end_by(&mut self, e: Ending)
         ensures { self.new ≡ ended_by self.old e }
     {
-        self.flags = sequence::end_flags(self.flags, self.regs.te, self.settings.framecnt, e);
+        match e {
+            Ending::Fe => self.flags.fe = true,
+            Ending::Error => {}
+            Ending::Sd => {
+                self.flags.sd = true;
+                self.flags.fld = sequence::fld_after(
+                    self.regs.te,
+                    self.settings.framecnt,
+                    self.flags.fld,
+                );
+            }
+            Ending::Wait(_) => self.flags.sd = true,
+        }
         self.walk = sequence::end_walk(e);
     }
 
@@ -90,7 +116,12 @@ impl Head {
     pub fn turn_at(&self, e: Event) -> Turn
         ensures { result ≡ turn_at self.now e }
     {
-        let framecnt = self.settings.framecnt;
-        sequence::turn_of(self.kind(), self.walk.phase, self.regs.te, framecnt, e)
+        sequence::turn_of(
+            self.kind(),
+            self.walk.phase,
+            self.regs.te,
+            self.settings.framecnt,
+            e,
+        )
     }
 }

@@ -1,7 +1,6 @@
 -- DEMAND 3 over every step of a channel: accesses and events, and the works that carry a buffer of their own. What a work is, and what its call does to
 -- the part, is said in crate works, specs/Work.antt.
-use Rattle.std.specs.Prelude.{ℕ, [], ◌≡◌, ltb}
-use Rattle.laws.specs.Pick.{when◌then◌else◌}
+use Rattle.std.specs.Prelude.{ℕ, [], ◌≡◌, ltb, if◌then◌else◌}
 use Rattle.steps.specs.declared.map.Step.{Step}
 use Rattle.mixes.specs.Mix.{Machine}
 use Rattle.works.specs.Work.{Work, Reply, work_done, work_reply}
@@ -24,7 +23,7 @@ after_task s (work c w) = work_done s c w
 -- the channel that a task is of, and 3 where it is of none
 abbrev pub owner_of_task : Task → ℕ
 owner_of_task (step a) = the_part.owner a
-owner_of_task (work c w) = when ltb c 3 then c else 3
+owner_of_task (work c w) = if ltb c 3 then c else 3
 
 -- the part as a machine of tasks
 abbrev pub the_bench : Machine State Task Reply

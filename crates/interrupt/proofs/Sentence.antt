@@ -7,7 +7,6 @@ use Rattle.rules.specs.declared.parts.Kind.TheVariants.{Fm, Ufm}
 use Rattle.rules.specs.declared.state.Flags.{Flags}
 use Rattle.rules.specs.Parts.{heeded}
 use Rattle.rules.specs.Registers.{bit_of, weigh, chstatus_value}
-use Rattle.laws.specs.Pick.{when◌then◌else◌}
 use Rattle.interrupt.specs.Interrupt.{◌unless◌, never, on_fm, some_of, causes_of, pending_of, pulls_of, pulled_by}
 use Rattle.interrupt.proofs.Laws.Bits.{bits, no_bit, clear, same}
 use Rattle.interrupt.proofs.Laws.Interrupt.{row_holds, holds_at, some_bit, of_some_bit}
@@ -21,7 +20,7 @@ never_masked kind f mask (inr (inr e)) = holds_at (causes_of kind f mask) 6 (row
 
 -- the bits of INTMSK that a UFm channel doesn't heed, as if they were 0
 pub unheeded : (kind : Kind) (f : Flags) (mask : ℕ) → pending_of kind f (heeded kind mask) ≡ pending_of kind f mask
-unfolding pending_of causes_of on_fm when◌then◌else◌
+unfolding pending_of causes_of on_fm
 unheeded Fm f mask = refl
 unheeded Ufm f mask = rw (same (heeded Ufm mask) mask 0x80 (omega arith), same (heeded Ufm mask) mask 0x40 (omega arith), same (heeded Ufm mask) mask 0x01 (omega arith))
 
@@ -64,7 +63,7 @@ rows_read kind f mask e five four =
 
 as_read : (kind : Kind) (f : Flags) (mask : ℕ) → mask / 2 % 8 ≡ 0
     → causes_of kind f (heeded kind mask) ≡ map (λ w. bit_of (chstatus_value f) w unless bit_of (heeded kind mask) w) all_bits
-unfolding on_fm when◌then◌else◌
+unfolding on_fm
 as_read Fm f mask e = rows_read Fm f mask e refl refl
 as_read Ufm f mask e =
     let low : mask % 16 < 2 = omega arith in

@@ -1,6 +1,5 @@
 -- Document 01, 'The part as the processor sees it': what CTRLINTMSK keeps, pending causes, and the interrupt; and BE, which no. 5 sets.
-use Rattle.std.specs.Prelude.{ℕ, ◌+◌, ◌*◌, ◌/◌, ◌%◌, Bool, true, false, not, List, [], ◌∷◌, eqb}
-use Rattle.laws.specs.Pick.{when◌then◌else◌}
+use Rattle.std.specs.Prelude.{ℕ, ◌+◌, ◌*◌, ◌/◌, ◌%◌, Bool, true, false, not, List, [], ◌∷◌, eqb, if◌then◌else◌}
 use Rattle.rules.specs.declared.parts.Kind.{Kind}
 use Rattle.rules.specs.declared.state.Flags.{Flags}
 use Rattle.rules.specs.Numbers.{past_buffer}
@@ -29,7 +28,7 @@ ch0msk = 0x01
 -- a row holds where the cause is set and its mask bit is 0
 infix 6 ◌unless◌
 unfoldable pub ◌unless◌ : Bool → Bool → Bool
-cause unless masked = when cause then not masked else false
+cause unless masked = if cause then not masked else false
 
 -- in place of a mask bit: DAE, CLE and SSE can't be masked
 abbrev pub never : Bool
@@ -37,12 +36,12 @@ never = false
 
 -- a mask bit that a UFm channel doesn't have: INTMSK bits 5 and 4 have no effect there (document 02, request Three)
 unfoldable pub on_fm : Kind → Bool → Bool
-on_fm kind masked = when is_fm kind then masked else never
+on_fm kind masked = if is_fm kind then masked else never
 
 -- some row holds
 unfoldable pub some_of : List Bool → Bool
 some_of [] = false
-some_of (row ∷ rows) = when row then true else some_of rows
+some_of (row ∷ rows) = if row then true else some_of rows
 
 -- CHSTATUS beside INTMSK, bit 7 to bit 0
 unfoldable pub causes_of : Kind → Flags → ℕ → List Bool
@@ -74,7 +73,7 @@ pulled_by be mask ch0 ch1 ch2 = some_of (pulls_of be mask ch0 ch1 ch2)
 
 -- no. 5, buffer boundary: BE set
 unfoldable pub be_after : Bool → ℕ → Bool
-be_after be number = when eqb number past_buffer then true else be
+be_after be number = if eqb number past_buffer then true else be
 
 -- out of range: a bit that is kept 0 set, here of CTRLINTMSK
 abbrev pub mask_in : ℕ → Bool

@@ -7,7 +7,7 @@ ghost use Rattle.interrupt.specs.Interrupt.{ctrl_kept, ◌unless◌, on_fm, some
 
 use rules::{FEMSK, FLDMSK, Flags, Kind, PAST_BUFFER, REMSK, SDMSK, WEMSK, bit, is_fm};
 
-// CTRLINTMSK as it is kept after v is written.
+// CTRLINTMSK as it is kept after v is written. By division, as the definition has it: `&` would need laws of its own.
 pub fn ctrl_kept(v: u8) -> u8
     ensures { result ≡ ctrl_kept v }
 {
@@ -65,7 +65,7 @@ fn causes(kind: Kind, f: Flags, mask: u8) -> [bool; 8]
     ]
 }
 
-// A flag as a number.
+// A flag as a number: its bound keeps the word of `calm` in range.
 fn number(flag: bool) -> u64
     ensures { (result ≡ weigh flag 1) × (result ≤ 1) }
 {
@@ -94,7 +94,7 @@ pub fn pending(kind: Kind, f: Flags, mask: u8) -> bool
     !calm(f) && some(&causes(kind, f, mask))
 }
 
-// BE and the channels that are pending beside CTRLINTMSK, bit 7 and bits 2 to 0.
+// BE and the channels that are pending beside CTRLINTMSK, bit 7 and bits 2 to 0. The three one by one, as definition `pulled_by` has them.
 #[tactic(auto, using(crate::proofs::Laws::Interrupt::rows), unfolding(crate::specs::Interrupt::pulls_of))]
 fn pulls(be: bool, mask: u8, ch0: bool, ch1: bool, ch2: bool) -> [bool; 4]
     ensures { result ≡ pulls_of be mask ch0 ch1 ch2 }

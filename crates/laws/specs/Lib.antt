@@ -1,4 +1,3 @@
-pub mod Pick
 pub mod Cases
 pub mod Lists
 pub mod Sets

@@ -1,13 +1,20 @@
 -- Document 01, 'Actions' and 'The script program': the letters of an action.
-use Rattle.std.specs.Prelude.{ℕ, ◌+◌, ◌/◌, ◌%◌, [], ◌∷◌, ltb}
-use Rattle.laws.specs.Pick.{when◌then◌else◌}
+use Rattle.std.specs.Prelude.{ℕ, ◌+◌, ◌/◌, ◌%◌, List, [], ◌∷◌, ◌++◌, ltb, length, drop, if◌then◌else◌}
 use Rattle.letters.specs.declared.Text.{Text}
 use Rattle.rules.specs.declared.wires.Action.{Action}
 use Rattle.rules.specs.declared.wires.Action.TheVariants.{Nothing, S, R, D, C, A, Np, Nr, P}
 
 -- upper-case hex: the digits 0 to 9 stand at 48, A to F at 65, which is 55 + 10
 unfoldable pub digit_of : ℕ → ℕ
-digit_of d = when ltb d 10 then 48 + d else 55 + d
+digit_of d = if ltb d 10 then 48 + d else 55 + d
+
+-- a byte, the high digit first
+abbrev pub hex_digits : ℕ → List ℕ
+hex_digits b = digit_of (b / 16) ∷ digit_of (b % 16) ∷ []
+
+-- some letters, four at most, and zeros behind them
+abbrev pub text_with : List ℕ → Text
+text_with l = record { bytes = l ++ drop (length l) (0 ∷ 0 ∷ 0 ∷ 0 ∷ []); len = length l }
 
 -- actions without a byte: C, A, P
 abbrev pub one_letter : ℕ → Text

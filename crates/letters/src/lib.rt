@@ -2,11 +2,11 @@
 #![tactic(auto)]
 
 ghost use Rattle.std.specs.Prelude.{◌≡◌, ◌<◌, ◌≤◌};
-ghost use Rattle.letters.specs.Letters.{digit_of, one_letter, two_letters, one_and_byte, two_and_byte, text_of};
+ghost use Rattle.letters.specs.Letters.{digit_of, hex_digits, text_with, one_and_byte, text_of};
 
 use rules::Action;
 
-// The first `len` of the bytes are the text, and the others are 0. A String would keep them on the heap, which no program here has.
+// The first `len` of the bytes are the text, and the others are 0. Bytes and a length: `text_of`, which `spell` promises, speaks of both.
 #[derive(Clone, Copy)]
 pub struct Text {
     pub bytes: [u8; 4],
@@ -22,40 +22,27 @@ pub fn digit(d: u8) -> u8
     if d < 10 { b'0' + d } else { b'A' - 10 + d }
 }
 
-fn one(x: u8) -> Text
-    ensures { (result ≡ one_letter x) × (result.len ≤ 4) }
+// A byte's two digits.
+pub fn hex(b: u8) -> [u8; 2]
+    ensures { result ≡ hex_digits b }
 {
-    Text {
-        bytes: [x, 0, 0, 0],
-        len: 1,
-    }
+    [digit(b / 16), digit(b % 16)]
 }
 
-fn two(x: u8, y: u8) -> Text
-    ensures { (result ≡ two_letters x y) × (result.len ≤ 4) }
+fn written<const N: usize>(letters: [u8; N]) -> Text
+    requires { N ≤ 4 }
+    ensures { (result ≡ text_with letters.entry) × (result.len ≤ 4) }
 {
-    Text {
-        bytes: [x, y, 0, 0],
-        len: 2,
-    }
+    let mut bytes = [0; 4];
+    bytes[..N].copy_from_slice(&letters);
+    Text { bytes, len: N }
 }
 
-fn one_and(x: u8, b: u8) -> Text
-    ensures { (result ≡ one_and_byte x b) × (result.len ≤ 4) }
+fn with_byte(letter: u8, b: u8) -> Text
+    ensures { (result ≡ one_and_byte letter b) × (result.len ≤ 4) }
 {
-    Text {
-        bytes: [x, digit(b / 16), digit(b % 16), 0],
-        len: 3,
-    }
-}
-
-fn two_and(x: u8, y: u8, b: u8) -> Text
-    ensures { (result ≡ two_and_byte x y b) × (result.len ≤ 4) }
-{
-    Text {
-        bytes: [x, y, digit(b / 16), digit(b % 16)],
-        len: 4,
-    }
+    let [high, low] = hex(b);
+    written([letter, high, low])
 }
 
 // An action's letters, without spaces.
@@ -63,14 +50,17 @@ pub fn spell(a: Action) -> Text
     ensures { (result ≡ text_of a) × (result.len ≤ 4) }
 {
     match a {
-        Action::Nothing => one(b'-'),
-        Action::S(sla) => one_and(b'S', sla),
-        Action::R(sla) => one_and(b'R', sla),
-        Action::D(b) => one_and(b'D', b),
-        Action::C => one(b'C'),
-        Action::A => one(b'A'),
-        Action::Np => two(b'N', b'P'),
-        Action::Nr(sla) => two_and(b'N', b'R', sla),
-        Action::P => one(b'P'),
+        Action::Nothing => written(*b"-"),
+        Action::S(sla) => with_byte(b'S', sla),
+        Action::R(sla) => with_byte(b'R', sla),
+        Action::D(b) => with_byte(b'D', b),
+        Action::C => written(*b"C"),
+        Action::A => written(*b"A"),
+        Action::Np => written(*b"NP"),
+        Action::Nr(sla) => {
+            let [high, low] = hex(sla);
+            written([b'N', b'R', high, low])
+        }
+        Action::P => written(*b"P"),
     }
 }

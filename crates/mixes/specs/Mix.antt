@@ -1,7 +1,6 @@
 -- What the theorem on mixed runs speaks of: mixes of three lists, machines, and their runs. A reader has to believe this page, and nothing of
 -- the proof (proofs/Laws/).
-use Rattle.std.specs.Prelude.{ℕ, ◌<◌, List, [], ◌∷◌, eqb}
-use Rattle.laws.specs.Pick.{when◌then◌else◌}
+use Rattle.std.specs.Prelude.{ℕ, ◌<◌, List, [], ◌∷◌, eqb, if◌then◌else◌}
 
 -- m has the elements of three lists, each list's in its own order, mixed in any way: an element of m is the next one of the first, of the
 -- second or of the third list, until all three are used up
@@ -14,7 +13,7 @@ pub data Mix (A : Type 0) : List A → List A → List A → List A → Type 0 w
 -- of a list, what is of channel c, in its order; `owner` says which channel an element is of
 abbrev pub list_of : {A : Type 0} → (A → ℕ) → ℕ → List A → List A
 list_of owner c [] = []
-list_of owner c (a ∷ l) = when eqb (owner a) c then a ∷ list_of owner c l else list_of owner c l
+list_of owner c (a ∷ l) = if eqb (owner a) c then a ∷ list_of owner c l else list_of owner c l
 
 -- a machine: what a step answers in a state, the state after it, and which channel it is a step of
 pub record Machine (S Step Ans : Type 0) : Type 0 where

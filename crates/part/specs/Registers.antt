@@ -1,6 +1,5 @@
 -- Document 01, 'The part as the processor sees it': CTRLSTATUS, the part's interrupt, and the reads and writes at F0h to FFh.
-use Rattle.std.specs.Prelude.{ℕ, ◌+◌, Bool, false, List}
-use Rattle.laws.specs.Pick.{when◌then◌else◌}
+use Rattle.std.specs.Prelude.{ℕ, ◌+◌, Bool, false, List, if◌then◌else◌}
 use Rattle.rules.specs.Access.{key_after, resets_of}
 use Rattle.rules.specs.Numbers.{nowhere, read_only}
 use Rattle.rules.specs.Parts.{device_id}
@@ -56,8 +55,8 @@ ctrl_written p Ctrlrdy v = refused_part p read_only
 
 -- writing A5h to CTRLPRESET and then 5Ah resets the whole part, which stays the one that was chosen; any other write at F0h to FFh forgets the A5h, as one elsewhere does (`forgetting`, Step.antt)
 unfoldable pub ctrl_put : Part → Ctrl → ℕ → PartStepped
-ctrl_put p reg v = when resets_of (ctrlpreset_of reg) v p.key then plain_part (fresh_part (device_of p)) else ctrl_written (with_key p (key_after (ctrlpreset_of reg) v)) reg v
+ctrl_put p reg v = if resets_of (ctrlpreset_of reg) v p.key then plain_part (fresh_part (device_of p)) else ctrl_written (with_key p (key_after (ctrlpreset_of reg) v)) reg v
 
 -- the 13,056 bytes: zero after a reset
 unfoldable pub ctrl_store : Part → List ℕ → Ctrl → ℕ → List ℕ
-ctrl_store p m reg v = when resets_of (ctrlpreset_of reg) v p.key then wiped else m
+ctrl_store p m reg v = if resets_of (ctrlpreset_of reg) v p.key then wiped else m

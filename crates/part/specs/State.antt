@@ -1,13 +1,12 @@
 -- Words for the record of the part: the reset state, what a step answers, the record with a part replaced, a channel's record and its window.
-use Rattle.std.specs.Prelude.{ℕ, Bool, false, List, [], ◌∷◌, map, eqb, get_or, replicate, set}
-use Rattle.laws.specs.Pick.{when◌then◌else◌}
+use Rattle.std.specs.Prelude.{ℕ, Bool, false, List, [], ◌∷◌, map, eqb, get_or, replicate, set, if◌then◌else◌}
 use Rattle.laws.specs.Windows.{window_of, put_window_of}
 use Rattle.rules.specs.declared.parts.Device.{Device}
 use Rattle.rules.specs.declared.parts.Kind.TheVariants.{Fm}
 use Rattle.rules.specs.Numbers.{buffer_size, memory_size, done}
 use Rattle.rules.specs.Parts.{strapped, other_kind, device_by}
 use Rattle.sequence.specs.Walk.{idle, no_flags}
-use Rattle.steps.specs.declared.answer.Act.{Act}
+use Rattle.rules.specs.declared.wires.Action.{Action}
 use Rattle.steps.specs.declared.answer.PartAnswer.{PartAnswer}
 use Rattle.steps.specs.Answer.{quiet}
 use Rattle.head.specs.declared.state.Head.{Head}
@@ -39,7 +38,7 @@ given p a = record { part = p; answer = a }
 
 -- ---- what a step answers: number, value, an action for each channel
 
-abbrev pub told : Part → ℕ → ℕ → List Act → PartStepped
+abbrev pub told : Part → ℕ → ℕ → List Action → PartStepped
 told p n v acts = given p (record { number = n; value = v; actions = acts })
 
 -- only a read answered 0 carries a value, else it is 00h; every answer but 0 has no action
@@ -118,5 +117,5 @@ forgotten p c = record {
   channels = all_but keyless blank p.channels c;
   be = p.be;
   mask = p.mask;
-  key = when eqb c 3 then p.key else false;
+  key = if eqb c 3 then p.key else false;
 }

@@ -1,13 +1,12 @@
 -- One step of the part: no. 9, or a step of one channel, of the whole part, or of none.
-use Rattle.std.specs.Prelude.{ℕ, Bool, true, false, List, [], ◌∷◌, map, eqb, length, set}
-use Rattle.laws.specs.Pick.{when◌then◌else◌}
+use Rattle.std.specs.Prelude.{ℕ, Bool, true, false, List, [], ◌∷◌, map, eqb, length, set, if◌then◌else◌}
 use Rattle.rules.specs.Numbers.{memory_size, done, nowhere, out_of_range}
 use Rattle.bounds.specs.Range.{kinds_in}
 use Rattle.head.specs.Head.{kind_of}
 use Rattle.interrupt.specs.Interrupt.{be_after, mask_in}
 use Rattle.rules.specs.declared.wires.Edge.{Edge}
 use Rattle.steps.specs.declared.map.Op.{Op}
-use Rattle.steps.specs.declared.answer.Act.{Act}
+use Rattle.rules.specs.declared.wires.Action.{Action}
 use Rattle.steps.specs.declared.answer.PartAnswer.{PartAnswer}
 use Rattle.steps.specs.Answer.{only_at}
 use Rattle.head.specs.declared.state.Answer.{Answer}
@@ -58,8 +57,8 @@ one_bytes p m c op = put_window c (one_served p m c op).bytes m
 abbrev pub edge_channel : Edge → Channel → Channel
 edge_channel edge c = (triggered c edge).channel
 
-abbrev pub edge_act : Edge → Channel → Act
-edge_act edge c = record { action = (triggered c edge).answer.action }
+abbrev pub edge_act : Edge → Channel → Action
+edge_act edge c = (triggered c edge).answer.action
 
 abbrev pub edge_be : Edge → Bool → List Channel → Bool
 edge_be edge be [] = be
@@ -117,7 +116,7 @@ part_stored p m t = target_stored (forgetting t p) m t
 -- every channel in range
 unfoldable pub channels_in : List Channel → Bool
 channels_in [] = true
-channels_in (c ∷ l) = when in_range c then channels_in l else false
+channels_in (c ∷ l) = if in_range c then channels_in l else false
 
 -- the channels' kinds are those of one part
 abbrev pub own_kinds : Part → Bool
@@ -125,16 +124,16 @@ own_kinds p = kinds_in (kind_of (chan p 0).head) (kind_of (chan p 1).head) (kind
 
 -- the part is in range: every channel is, no bit of CTRLINTMSK that is kept 0 is set, and the kinds are one part's
 unfoldable pub part_in : Part → Bool
-part_in p = when channels_in p.channels then (when mask_in p.mask then own_kinds p else false) else false
+part_in p = if channels_in p.channels then (if mask_in p.mask then own_kinds p else false) else false
 
 -- a memory of 13,056 bytes and a part in range are accepted
 unfoldable pub accepts : Part → ℕ → Bool
-accepts p len = when eqb len memory_size then part_in p else false
+accepts p len = if eqb len memory_size then part_in p else false
 
 -- the new part with its answer
 unfoldable pub part_step : Part → List ℕ → Step → PartStepped
-part_step p m s = when accepts p (length m) then part_served p m (target_of s) else refused_part p out_of_range
+part_step p m s = if accepts p (length m) then part_served p m (target_of s) else refused_part p out_of_range
 
 -- the 13,056 bytes
 unfoldable pub part_bytes : Part → List ℕ → Step → List ℕ
-part_bytes p m s = when accepts p (length m) then part_stored p m (target_of s) else m
+part_bytes p m s = if accepts p (length m) then part_stored p m (target_of s) else m

@@ -10,7 +10,7 @@ use rules::{Device, Refusal, weight};
 use steps::{Ctrl, PartAnswer, is_ctrlpreset};
 
 impl Part {
-    // Whether channel c is pending.
+    // Whether channel c is pending. By its number, as the definitions `pending_at` and `active_at` take it.
     fn pending_at(&self, c: usize) -> bool
         requires { c < 3 }
         ensures { result ≡ pending_at self.now c }

@@ -42,7 +42,7 @@ impl Part {
         }
     }
 
-    // The part with an answer's number and nothing else.
+    // The part with an answer's number and nothing else. Any number, 0 too, as the definition `refused_part` has it.
     pub fn answer(self, number: u8) -> PartStepped
         ensures { result ≡ refused_part self number }
     {
@@ -59,7 +59,7 @@ impl Part {
         rules::device_by(self.channels[1].head.kind())
     }
 
-    // Every pending A5h is forgotten but number c: channel c's, or for c 3 CTRLPRESET's.
+    // Every pending A5h is forgotten but number c: channel c's, or for c 3 CTRLPRESET's (the definition `forgotten` numbers them so).
     pub(crate) fn forget_but(&mut self, c: u8)
         ensures { self.new ≡ forgotten self.old c }
     {
@@ -98,7 +98,7 @@ impl Part {
         self.channels_in() && mask_in(self.mask) && self.own_kinds()
     }
 
-    // Whether no. 9 does not refuse the part with a memory of this length.
+    // Whether no. 9 does not refuse the part with a memory of this length. A bool and no `Refusal`, as the definition `accepts` is one.
     #[tactic(auto, using(laws::specs::Cases::cases), unfolding(crate::specs::Step::accepts))]
     pub fn accepts_len(&self, len: usize) -> bool
         ensures { result ≡ accepts self.now len }

@@ -9,7 +9,7 @@ use crate::state::{Part, PartStepped};
 use interrupt::be_after;
 use rules::{BUFFER, DONE, Edge, OUT_OF_RANGE, Refusal};
 use steps::{
-    Act, Op, PartAnswer, Step, Target, Wide, act_at, no_acts, op_writes, target_of, wide_writes,
+    Op, PartAnswer, Step, Target, Wide, act_at, no_acts, op_writes, target_of, wide_writes,
 };
 
 impl Part {
@@ -35,10 +35,11 @@ impl Part {
         ensures { given self.new result ≡ trigger_step self.old edge }
     {
         let mut actions = no_acts();
+        // By number: an `iter_mut` of the channels would need `zip` for the actions.
         for c in 0..3 {
             let a = self.channels[c].trigger(edge);
             self.be = be_after(self.be, a.number);
-            actions[c] = Act { action: a.action };
+            actions[c] = a.action;
         }
         PartAnswer {
             number: DONE,
@@ -68,16 +69,9 @@ impl Part {
         ensures { self.new ≡ forgetting t self.old }
     {
         match t {
-            Target::One(op, c) => {
-                if op_writes(op) {
-                    self.forget_but(c);
-                }
-            }
-            Target::All(w) => {
-                if wide_writes(w) {
-                    self.forget_but(3);
-                }
-            }
+            Target::One(op, c) if op_writes(op) => self.forget_but(c),
+            Target::All(w) if wide_writes(w) => self.forget_but(3),
+            _ => {}
         }
     }
 

@@ -16,7 +16,7 @@ use Rattle.sequence.specs.Walk.{no_flags}
 use Rattle.head.specs.declared.state.Answer.{Answer}
 use Rattle.head.specs.declared.state.Head.{Head}
 use Rattle.head.specs.declared.state.Settings.{Settings}
-use Rattle.head.specs.State.{Headed, headed, fresh_head, numbered, valued, acting, replied, with_flags}
+use Rattle.head.specs.State.{Headed, headed, fresh_head, numbered, valued, acting, answer_by, replied, with_flags}
 use Rattle.head.specs.Head.{kind_of, halt_of, turn_at, stopped, clocked, noted, failed, late_by, faulted, ended_by, frame_ended}
 use Rattle.head.specs.Access.{setting_of, setting_set, read_refusal, control_of, data_place, moded, pointed, refusal_of, selected, offset}
 use Rattle.head.specs.Range.{head_in}
@@ -73,6 +73,9 @@ done_once = no_second (λ r h. h)
 
 pub refused_once : (e : Refusal) → Once Answer (λ r. r ≡ numbered (refusal_number e))
 refused_once e = no_second (λ r h. h)
+
+pub by_once : (outcome : Result Answer Refusal) → Once Answer (λ r. r ≡ answer_by outcome)
+by_once outcome = no_second (λ r h. h)
 
 pub reply_once : (value : ℕ) → Once Answer (λ r. r ≡ valued value)
 reply_once value = no_second (λ r h. h)

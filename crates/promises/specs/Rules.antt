@@ -11,7 +11,7 @@ use Rattle.rules.specs.declared.state.Phase.{Phase}
 use Rattle.rules.specs.declared.wires.Action.{Action}
 use Rattle.rules.specs.declared.wires.Event.{Event}
 use Rattle.rules.specs.Access.{busy_refusal, past_refusal, place_refusal, sla_refusal, conf_refusal, spot_of, spot_refusal, data_refusal, sel_refusal}
-use Rattle.rules.specs.Access.{kept_if, rewound, pointed_at, overrun_of, preset_of, key_after, resets_of}
+use Rattle.rules.specs.Access.{overrun_of, preset_of, key_after, resets_of}
 use Rattle.rules.specs.Facts.{Configured, KnownPlace}
 use Rattle.rules.specs.Numbers.{refusal_number, number_of}
 use Rattle.rules.specs.Parts.{is_fm, other_kind, device_by, device_id}
@@ -54,15 +54,6 @@ data_refusal_once p s = no_second_number
 
 pub sel_refusal_once : (lens : List ℕ) (v : ℕ) → Once (Result (Unit {0}) Refusal) (λ r. number_of r ≡ sel_refusal lens v)
 sel_refusal_once lens v = no_second_number
-
-pub kept_if_once : (active old new : Bool) → Once Bool (λ r. r ≡ kept_if active old new)
-kept_if_once active old new = no_second (λ r h. h)
-
-pub rewind_once : (reset : Bool) (at : ℕ) → Once ℕ (λ r. r ≡ rewound reset at)
-rewind_once reset at = no_second (λ r h. h)
-
-pub point_at_once : (aiptrrst : Bool) (place at : ℕ) → Once ℕ (λ r. r ≡ pointed_at aiptrrst place at)
-point_at_once aiptrrst place at = no_second (λ r h. h)
 
 pub overrun_once : (aiptrrst : Bool) (place : ℕ) → Once Bool (λ r. r ≡ overrun_of aiptrrst place)
 overrun_once aiptrrst place = no_second (λ r h. h)

@@ -13,14 +13,13 @@ use Rattle.sequence.specs.declared.wires.Beginning.{Beginning}
 use Rattle.rules.specs.declared.wires.Edge.{Edge}
 use Rattle.sequence.specs.declared.wires.Ending.{Ending}
 use Rattle.rules.specs.declared.wires.Event.{Event}
-use Rattle.sequence.specs.declared.wires.Fault.{Fault}
 use Rattle.sequence.specs.declared.wires.Move.{Move}
 use Rattle.sequence.specs.declared.wires.Next.{Next}
 use Rattle.sequence.specs.declared.wires.Tail.{Tail}
 use Rattle.sequence.specs.declared.wires.Turn.{Turn}
 use Rattle.sequence.specs.Facts.{Exists, Ready}
-use Rattle.sequence.specs.Walk.{idle, waiting, no_flags, nack_flags, fault_flags, late_flags, late_walk, end_flags, end_walk}
-use Rattle.sequence.specs.Wires.{turn_of, edge_beat, halted_of, reach_of, move_of, next_of, stop_by, again_by, masked_of, beginning_of, rest_of, ending_of, ask_of}
+use Rattle.sequence.specs.Walk.{idle, waiting, no_flags, end_walk}
+use Rattle.sequence.specs.Wires.{turn_of, edge_beat, halted_of, reach_of, move_of, next_of, stop_by, again_by, masked_of, beginning_of, rest_of, ending_of, fld_after, ask_of}
 use Rattle.promises.specs.Promise.{Once, no_second}
 
 -- ---- walk.rt
@@ -33,25 +32,13 @@ waiting_walk_once ended = no_second (λ r h. h)
 pub no_flags_once : Once Flags (λ r. r ≡ no_flags)
 no_flags_once = no_second (λ r h. h)
 
-pub nack_flags_once : (f : Flags) (read : Bool) → Once Flags (λ r. r ≡ nack_flags f read)
-nack_flags_once f read = no_second (λ r h. h)
-
-pub fault_flags_once : (f : Flags) (fault : Fault) → Once Flags (λ r. r ≡ fault_flags f fault)
-fault_flags_once f fault = no_second (λ r h. h)
-
-pub late_flags_once : (f : Flags) (femsk : Bool) → Once Flags (λ r. r ≡ late_flags f femsk)
-late_flags_once f femsk = no_second (λ r h. h)
-
-pub late_walk_once : (w : Walk) (femsk : Bool) → Once Walk (λ r. r ≡ late_walk w femsk)
-late_walk_once w femsk = no_second (λ r h. h)
-
-pub end_flags_once : (f : Flags) (te : Bool) (framecnt : ℕ) (e : Ending) → Once Flags (λ r. r ≡ end_flags f te framecnt e)
-end_flags_once f te framecnt e = no_second (λ r h. h)
-
 pub end_walk_once : (e : Ending) → Once Walk (λ r. r ≡ end_walk e)
 end_walk_once e = no_second (λ r h. h)
 
 -- ---- wires.rt
+pub fld_after_once : (te : Bool) (framecnt : ℕ) (old : Bool) → Once Bool (λ r. r ≡ fld_after te framecnt old)
+fld_after_once te framecnt old = no_second (λ r h. h)
+
 pub turn_of_once : (kind : Kind) (p : Phase) (te : Bool) (framecnt : ℕ) (e : Event) → Once Turn (λ r. r ≡ turn_of kind p te framecnt e)
 turn_of_once kind p te framecnt e = no_second (λ r h. h)
 
@@ -69,9 +56,6 @@ next_move_once halt to count = no_second (λ r h. h.0)
 
 pub next_byte_once : (halt : Bool) (n len : ℕ) → Once Next (λ r. (r ≡ next_of halt n len) × Ready r n len)
 next_byte_once halt n len = no_second (λ r h. h.0)
-
-pub count_one_once : (counts : List ℕ) (n : ℕ) → Once (List ℕ) (λ counts'. counts' ≡ set counts n (get_or counts n 0 + 1))
-count_one_once counts n = no_second (λ r h. h)
 
 pub store_once : (lens counts mem : List ℕ) (n b : ℕ) → Once (List ℕ) (λ mem'. mem' ≡ set mem (start_of lens n + get_or counts n 0) b)
 store_once lens counts mem n b = no_second (λ r h. h)

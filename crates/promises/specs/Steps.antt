@@ -3,7 +3,6 @@ use Rattle.std.specs.Prelude.{ℕ, Bool, List, ◌≡◌}
 use Rattle.rules.specs.declared.numbers.Refusal.{Refusal}
 use Rattle.rules.specs.Numbers.{done, refusal_number}
 use Rattle.rules.specs.declared.wires.Action.{Action}
-use Rattle.steps.specs.declared.answer.Act.{Act}
 use Rattle.steps.specs.declared.answer.PartAnswer.{PartAnswer}
 use Rattle.steps.specs.declared.map.Ctrl.{Ctrl}
 use Rattle.steps.specs.declared.map.Op.{Op}
@@ -17,10 +16,10 @@ use Rattle.steps.specs.Facts.{InPart}
 use Rattle.promises.specs.Promise.{Once, no_second}
 
 -- ---- answer.rt
-pub no_acts_once : Once (List Act) (λ r. r ≡ quiet)
+pub no_acts_once : Once (List Action) (λ r. r ≡ quiet)
 no_acts_once = no_second (λ r h. h)
 
-pub act_at_once : (c : ℕ) (action : Action) → Once (List Act) (λ r. r ≡ only_at c action)
+pub act_at_once : (c : ℕ) (action : Action) → Once (List Action) (λ r. r ≡ only_at c action)
 act_at_once c action = no_second (λ r h. h)
 
 pub numbered_once : (number : ℕ) → Once PartAnswer (λ r. r ≡ numbered number)

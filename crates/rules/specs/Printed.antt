@@ -1,6 +1,5 @@
 -- The tags are those that document 02 prints.
-use Rattle.std.specs.Prelude.{ℕ, zero, suc, ◌+◌, Bool, true, false, List, [], ◌∷◌, ◌++◌, ◌≡◌, refl, eqb}
-use Rattle.laws.specs.Pick.{when◌then◌else◌}
+use Rattle.std.specs.Prelude.{ℕ, zero, suc, ◌+◌, Bool, true, false, List, [], ◌∷◌, ◌++◌, ◌≡◌, refl, eqb, if◌then◌else◌}
 use Rattle.rules.specs.declared.wires.Action.TheVariants.{Nothing, S, R, D, C, A, Np, Nr, P}
 use Rattle.rules.specs.declared.wires.Event.TheVariants.{Ninth, Byte, Tick, Stop, Sda, Scl, Ill, Sent}
 use Rattle.rules.specs.declared.wires.Level.TheVariants.{Low, High}
@@ -16,11 +15,11 @@ listed v =
 
 abbrev pub is_in : ℕ → List ℕ → Bool
 is_in k [] = false
-is_in k (x ∷ l) = when eqb k x then true else is_in k l
+is_in k (x ∷ l) = if eqb k x then true else is_in k l
 
 -- kinds 1, 2, 3, 7 and 10 carry a value, the others 0
 abbrev pub carried : ℕ → ℕ → ℕ
-carried v k = when is_in k (1 ∷ 2 ∷ 3 ∷ 7 ∷ 10 ∷ []) then v else 0
+carried v k = if is_in k (1 ∷ 2 ∷ 3 ∷ 7 ∷ 10 ∷ []) then v else 0
 
 -- n tags, of the kinds k, k + 1 and so on
 abbrev pub numbered : ℕ → ℕ → ℕ → List Tag
@@ -29,5 +28,4 @@ numbered v k (suc n) = tag k (carried v k) ∷ numbered v (k + 1) n
 
 -- the first of the list is 1, and nothing is 0; SENT is 20
 pub as_printed : (v : ℕ) → listed v ≡ numbered v 0 17 ++ numbered v 20 1
-unfolding when◌then◌else◌
 as_printed v = refl

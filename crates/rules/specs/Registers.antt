@@ -1,6 +1,5 @@
 -- Document 01, 'The part as the processor sees it': a channel's registers, and the bits of CONTROL, CHSTATUS and INTMSK.
-use Rattle.std.specs.Prelude.{ℕ, ◌+◌, ◌-◌, ◌*◌, ◌/◌, ◌%◌, Bool, true, false, Option, Some, None, eqb, ltb}
-use Rattle.laws.specs.Pick.{when◌then◌else◌}
+use Rattle.std.specs.Prelude.{ℕ, ◌+◌, ◌-◌, ◌*◌, ◌/◌, ◌%◌, Bool, true, false, Option, Some, None, eqb, ltb, if◌then◌else◌}
 use Rattle.rules.specs.declared.state.Phase.{Phase}
 use Rattle.rules.specs.declared.state.Phase.TheVariants.{Idle, Address, Sending, Receiving, Stopping, Waiting}
 use Rattle.rules.specs.declared.state.Flags.{Flags}
@@ -10,35 +9,35 @@ use Rattle.rules.specs.declared.registers.Register.TheVariants.{Status, Control,
 
 -- 64c + n: STATUS n of channel c
 unfoldable pub status_place : ℕ → ℕ → Option Register
-status_place c a = when eqb (a / 64) c then Some (Status (a % 64)) else None
+status_place c a = if eqb (a / 64) c then Some (Status (a % 64)) else None
 
 -- +0 to +8: CONTROL, CHSTATUS, INTMSK, SLATABLE, TRANCONFIG, DATA, TRANSEL, TRANOFS, BYTECOUNT
 unfoldable pub table_at : ℕ → Register
 table_at n =
-    when eqb n 0x0 then Control else
-    when eqb n 0x1 then Chstatus else
-    when eqb n 0x2 then Intmsk else
-    when eqb n 0x3 then Slatable else
-    when eqb n 0x4 then Tranconfig else
-    when eqb n 0x5 then Data else
-    when eqb n 0x6 then Transel else
-    when eqb n 0x7 then Tranofs else Bytecount
+    if eqb n 0x0 then Control else
+    if eqb n 0x1 then Chstatus else
+    if eqb n 0x2 then Intmsk else
+    if eqb n 0x3 then Slatable else
+    if eqb n 0x4 then Tranconfig else
+    if eqb n 0x5 then Data else
+    if eqb n 0x6 then Transel else
+    if eqb n 0x7 then Tranofs else Bytecount
 
 -- +9 to +E: FRAMECNT, REFRATE, SCLL, SCLH, MODE, TIMEOUT; +F: PRESET
 unfoldable pub setting_at : ℕ → Register
-setting_at n = when eqb n 0xF then Preset else Setting (n - 0x9)
+setting_at n = if eqb n 0xF then Preset else Setting (n - 0x9)
 
 -- C0h, D0h, E0h + n
 unfoldable pub register_at : ℕ → Register
-register_at n = when ltb 0x8 n then setting_at n else table_at n
+register_at n = if ltb 0x8 n then setting_at n else table_at n
 
 -- C0h, D0h, E0h: of channel c
 unfoldable pub register_place : ℕ → ℕ → Option Register
-register_place c a = when eqb (a / 16) (12 + c) then Some (register_at (a % 16)) else None
+register_place c a = if eqb (a / 16) (12 + c) then Some (register_at (a % 16)) else None
 
 -- what stands at address a for channel c, 0 to 2
 unfoldable pub place_of : ℕ → ℕ → Option Register
-place_of c a = when ltb 2 c then None else when ltb a 0xC0 then status_place c a else register_place c a
+place_of c a = if ltb 2 c then None else if ltb a 0xC0 then status_place c a else register_place c a
 
 -- the bit of weight w
 abbrev pub bit_of : ℕ → ℕ → Bool
@@ -58,7 +57,7 @@ command_of v = record {
 
 -- a bit of weight w as a number
 unfoldable pub weigh : Bool → ℕ → ℕ
-weigh b w = when b then w else 0
+weigh b w = if b then w else 0
 
 -- CONTROL as it is read: bits 2 to 0 read 0
 unfoldable pub control_value : Bool → Bool → Bool → Bool → Bool → ℕ

@@ -1,6 +1,5 @@
 -- What the tables say: where a transaction's bytes start, which transactions are skipped, and the first that is not.
-use Rattle.std.specs.Prelude.{ℕ, zero, suc, ◌+◌, ◌-◌, ◌%◌, Bool, true, false, List, get_or, set, eqb, ltb, leb}
-use Rattle.laws.specs.Pick.{when◌then◌else◌}
+use Rattle.std.specs.Prelude.{ℕ, zero, suc, ◌+◌, ◌-◌, ◌%◌, Bool, true, false, List, get_or, set, eqb, ltb, leb, if◌then◌else◌}
 use Rattle.rules.specs.declared.parts.Kind.{Kind}
 use Rattle.rules.specs.Numbers.{buffer_size, done_status}
 use Rattle.rules.specs.Parts.{is_fm}
@@ -28,20 +27,20 @@ reads_of sla = eqb (sla % 2) 1
 
 -- a read of length 0 is skipped as done; of a UFm channel a transaction whose SLATABLE bit 0 is 1, whatever its length (document 02, request Three)
 unfoldable pub read_skipped : Kind → ℕ → Bool
-read_skipped kind len = when is_fm kind then eqb len 0 else true
+read_skipped kind len = if is_fm kind then eqb len 0 else true
 
 unfoldable pub skipped_of : Kind → ℕ → ℕ → Bool
-skipped_of kind sla len = when reads_of sla then read_skipped kind len else false
+skipped_of kind sla len = if reads_of sla then read_skipped kind len else false
 
 -- so, a length being a byte, the longest read that is skipped
 unfoldable pub longest_skipped : Kind → ℕ
-longest_skipped kind = when is_fm kind then 0 else 255
+longest_skipped kind = if is_fm kind then 0 else 255
 
 -- the first of the next `left` transactions from i that is not skipped, or the one after them
 unfoldable pub sent_from : Kind → List ℕ → List ℕ → ℕ → ℕ → ℕ
 sent_from kind sla lens i zero = i
 sent_from kind sla lens i (suc left) =
-    when skipped_of kind (get_or sla i 0) (get_or lens (i + 1) 0) then sent_from kind sla lens (i + 1) left else i
+    if skipped_of kind (get_or sla i 0) (get_or lens (i + 1) 0) then sent_from kind sla lens (i + 1) left else i
 
 -- the first transaction from `from` that is not skipped, or the count
 abbrev pub first_sent : Kind → List ℕ → List ℕ → ℕ → ℕ → ℕ

@@ -1,6 +1,5 @@
 -- Document 02, request Eleven: the kinds by which a capture names actions and events. This is the one table of such numbers.
-use Rattle.std.specs.Prelude.{ℕ, Bool, false, List, [], ◌∷◌, Option, Some, None, eqb}
-use Rattle.laws.specs.Pick.{when◌then◌else◌}
+use Rattle.std.specs.Prelude.{ℕ, Bool, false, List, [], ◌∷◌, Option, Some, None, eqb, if◌then◌else◌}
 use Rattle.rules.specs.declared.wires.Action.{Action}
 use Rattle.rules.specs.declared.wires.Action.TheVariants.{Nothing, S, R, D, C, A, Np, Nr, P}
 use Rattle.rules.specs.declared.wires.Event.{Event}
@@ -40,11 +39,11 @@ event_tag Sent = tag 20 0
 
 -- the same kind and the same value
 unfoldable pub same_tag : Tag → Tag → Bool
-same_tag t u = when eqb t.kind u.kind then eqb t.value u.value else false
+same_tag t u = if eqb t.kind u.kind then eqb t.value u.value else false
 
 -- an event, if the tag is its own
 unfoldable pub known_as : Tag → Event → Option Event → Option Event
-known_as t e rest = when same_tag t (event_tag e) then Some e else rest
+known_as t e rest = if same_tag t (event_tag e) then Some e else rest
 
 -- the first of some events whose own tag it is
 abbrev pub among : Tag → List Event → Option Event
@@ -58,7 +57,3 @@ events_with v = Ninth Low ∷ Byte v ∷ Ninth High ∷ Tick ∷ Stop ∷ Sda �
 -- an action's kind, an unknown kind and a value where none belongs are no event's
 abbrev pub event_of : Tag → Option Event
 event_of t = among t (events_with t.value)
-
--- of a kind that carries no value: its event, if the value beside it is 0
-unfoldable pub plain_of : Event → ℕ → Option Event
-plain_of e v = when eqb v 0 then Some e else None

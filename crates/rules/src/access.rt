@@ -1,9 +1,9 @@
 // Document 01, 'Numbers that an answer carries': refusals of an access to a register, pointers, and the reset key.
-#![tactic(auto, using(laws::specs::Cases::cases), unfolding(crate::specs::Access::busy_refusal, crate::specs::Access::past_refusal, crate::specs::Access::too_many, crate::specs::Access::place_refusal, crate::specs::Access::rewound, crate::specs::Access::at_most, crate::specs::Access::pointed_at, crate::specs::Access::overrun_of, crate::specs::Access::key_after, crate::specs::Access::resets_of, crate::specs::Access::kept_if))]
+#![tactic(auto, using(laws::specs::Cases::cases), unfolding(crate::specs::Access::busy_refusal, crate::specs::Access::past_refusal, crate::specs::Access::too_many, crate::specs::Access::conf_refusal, crate::specs::Access::sel_refusal, crate::specs::Access::place_refusal, crate::specs::Access::overrun_of, crate::specs::Access::key_after, crate::specs::Access::resets_of))]
 
 ghost use Rattle.std.specs.Prelude.{◌≡◌, ◌≤◌, get_or};
 ghost use Rattle.rules.specs.Access.{busy_refusal, locked_of, past_refusal, too_many, sla_refusal, conf_refusal, place_refusal, sel_refusal, spot_of, spot_refusal, data_refusal};
-ghost use Rattle.rules.specs.Access.{rewound, at_most, pointed_at, overrun_of, preset_of, key_after, resets_of, kept_if};
+ghost use Rattle.rules.specs.Access.{overrun_of, preset_of, key_after, resets_of};
 ghost use Rattle.rules.specs.Facts.{Configured};
 ghost use Rattle.rules.specs.Numbers.{number_of};
 
@@ -50,21 +50,21 @@ fn too_many(at: usize, v: u8) -> bool
     at == 0 && 64 < v
 }
 
+#[tactic(auto, using(crate::proofs::Laws::Numbers::number_of_and), unfolding(crate::specs::Access::busy_refusal, crate::specs::Access::sla_refusal))]
 pub fn sla_refusal(p: Phase, at: usize) -> Result<(), Refusal>
     ensures { number_of result ≡ sla_refusal p at }
 {
-    busy_refusal(p)?;
-    past_refusal(63, at)
+    busy_refusal(p).and(past_refusal(63, at))
 }
 
 pub fn conf_refusal(p: Phase, at: usize, v: u8) -> Result<(), Refusal>
     ensures { number_of result ≡ conf_refusal p at v }
 {
     if locked(p, at) {
-        return Err(Refusal::Locked);
-    }
-    past_refusal(64, at)?;
-    if too_many(at, v) {
+        Err(Refusal::Locked)
+    } else if 64 < at {
+        Err(Refusal::PastTable)
+    } else if too_many(at, v) {
         Err(Refusal::ManyTransactions)
     } else {
         Ok(())
@@ -92,16 +92,12 @@ pub fn sel_refusal(lens: &[u8; 65], v: u8) -> Result<(), Refusal>
     place_refusal(start_of(lens, v as usize))
 }
 
-// Finds the place of the buffer at which DATA's pointer stands, if TRANCONFIG configures it.
+// Finds the place of the buffer at which DATA's pointer stands, if TRANCONFIG configures it. The place and no bool: that it is `Configured` is promised.
 pub fn find_place(lens: &[u8; 65], at: usize) -> Option<usize>
     requires { get_or lens.now 0 0 ≤ 64 }
     ensures { (result ≡ spot_of lens.now at) × Configured lens.now result }
 {
-    if at < BUFFER && configured(lens, at) {
-        Some(at)
-    } else {
-        None
-    }
+    (at < BUFFER && configured(lens, at)).then_some(at)
 }
 
 pub fn spot_refusal(s: Option<usize>) -> Result<(), Refusal>
@@ -113,32 +109,14 @@ pub fn spot_refusal(s: Option<usize>) -> Result<(), Refusal>
     }
 }
 
+#[tactic(auto, using(crate::proofs::Laws::Numbers::number_of_and), unfolding(crate::specs::Access::busy_refusal, crate::specs::Access::data_refusal))]
 pub fn data_refusal(p: Phase, s: Option<usize>) -> Result<(), Refusal>
     ensures { number_of result ≡ data_refusal p s }
 {
-    busy_refusal(p)?;
-    spot_refusal(s)
+    busy_refusal(p).and(spot_refusal(s))
 }
 
-// ---- AIPTRRST and BPTRRST
-
-pub fn rewind(reset: bool, at: usize) -> usize
-    ensures { result ≡ rewound reset at }
-{
-    if reset { 0 } else { at }
-}
-
-fn at_most(place: usize) -> usize
-    ensures { result ≡ at_most place }
-{
-    place.min(BUFFER)
-}
-
-pub fn point_at(aiptrrst: bool, place: usize, at: usize) -> usize
-    ensures { result ≡ pointed_at aiptrrst place at }
-{
-    if aiptrrst { at_most(place) } else { at }
-}
+// ---- AIPTRRST past the buffer
 
 pub fn overrun(aiptrrst: bool, place: usize) -> bool
     ensures { result ≡ overrun_of aiptrrst place }
@@ -166,12 +144,4 @@ pub fn resets(preset: bool, v: u8, key: bool) -> bool
     ensures { result ≡ resets_of preset v key }
 {
     preset && key && v == 0x5A
-}
-
-// ---- CONTROL: TP and TE
-
-pub fn kept_if(active: bool, old: bool, new: bool) -> bool
-    ensures { result ≡ kept_if active old new }
-{
-    if active { old } else { new }
 }

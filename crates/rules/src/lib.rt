@@ -12,13 +12,12 @@ mod tags;
 mod wires;
 
 pub use access::{
-    busy_refusal, conf_refusal, data_refusal, find_place, is_preset, kept_if, key_after, overrun,
-    past_refusal, place_refusal, point_at, resets, rewind, sel_refusal, sla_refusal, spot_refusal,
+    busy_refusal, conf_refusal, data_refusal, find_place, is_preset, key_after, overrun,
+    past_refusal, place_refusal, resets, sel_refusal, sla_refusal, spot_refusal,
 };
 pub use numbers::{
-    ADDRESS_REFUSED, BUFFER, DATA_REFUSED, DONE, DONE_STATUS, LOCKED, MANY_TRANSACTIONS, MEMORY,
-    NO_ROOM, NOT_A_FILE, NOT_AWAITED, NOT_BEGUN, NOWHERE, OUT_OF_RANGE, PAST_BUFFER, PAST_TABLE,
-    READ_ONLY, Refusal, UNDERWAY, UNREADABLE, number_of,
+    ADDRESS_REFUSED, BUFFER, DATA_REFUSED, DONE, DONE_STATUS, LOCKED, MEMORY, NO_ROOM, NOT_A_FILE,
+    NOT_BEGUN, NOWHERE, OUT_OF_RANGE, PAST_BUFFER, Refusal, UNDERWAY, UNREADABLE, number_of,
 };
 pub use parts::{Device, Kind, Straps, device_by, device_id, is_fm, other_kind};
 pub use registers::{

@@ -18,22 +18,14 @@ pub const ADDRESS_REFUSED: u8 = 0x04;
 
 pub const DATA_REFUSED: u8 = 0x08;
 
-// Numbers that an answer carries.
+// Numbers that an answer carries, as far as code names them: `Refusal` has them all.
 pub const DONE: u8 = 0;
 
 pub const NOWHERE: u8 = 1;
 
-pub const READ_ONLY: u8 = 2;
-
 pub const LOCKED: u8 = 3;
 
-pub const PAST_TABLE: u8 = 4;
-
 pub const PAST_BUFFER: u8 = 5;
-
-pub const MANY_TRANSACTIONS: u8 = 6;
-
-pub const NOT_AWAITED: u8 = 7;
 
 pub const UNREADABLE: u8 = 8;
 
@@ -46,7 +38,7 @@ pub const NO_ROOM: u8 = 11;
 // Why a step is refused, in the order of the numbers.
 #[derive(Clone, Copy, PartialEq, Eq)]
 pub enum Refusal {
-    Nowhere,
+    Nowhere = 1,
     ReadOnly,
     Locked,
     PastTable,
@@ -61,33 +53,11 @@ pub enum Refusal {
 
 impl Refusal {
     // Its number, as an answer carries it.
+    #[tactic(auto, using(laws::specs::Cases::cases))]
     pub fn number(self) -> u8
         ensures { result ≡ refusal_number self }
     {
-        match self {
-            Refusal::Nowhere => NOWHERE,
-            Refusal::ReadOnly => READ_ONLY,
-            Refusal::Locked => LOCKED,
-            Refusal::PastTable => PAST_TABLE,
-            Refusal::PastBuffer => PAST_BUFFER,
-            Refusal::ManyTransactions => MANY_TRANSACTIONS,
-            Refusal::NotAwaited => NOT_AWAITED,
-            Refusal::Unreadable => UNREADABLE,
-            Refusal::OutOfRange => OUT_OF_RANGE,
-            Refusal::NotAFile => NOT_A_FILE,
-            Refusal::NoRoom => NO_ROOM,
-        }
-    }
-}
-
-impl From<Refusal> for u8 {
-    ghost use Rattle.rules.specs.Numbers.{refusal_number};
-    ghost use Rattle.std.specs.Prelude.{◌≡◌};
-
-    ghost from_gives = { λ r n. n ≡ refusal_number r };
-
-    fn from(refusal: Refusal) -> u8 {
-        refusal.number()
+        self as u8
     }
 }
 

@@ -1,4 +1,4 @@
-// Document 02, request Three: the two parts, and the kinds of their channels.
+// Document 02, request Three: the two parts, and the kinds of their channels. Functions and no `From`: a part has two kinds, and `Kind::from(device)` would not say whose.
 ghost use Rattle.std.specs.Prelude.{◌≡◌};
 ghost use Rattle.rules.specs.Parts.{is_fm, other_kind, device_by, device_id};
 
@@ -9,7 +9,7 @@ pub enum Kind {
     Ufm,
 }
 
-// What the hardware reset chose of a channel: no other step changes it.
+// What the hardware reset chose of a channel: no other step changes it. A struct, since `Channel::new` and `fresh_head` are over it.
 #[derive(Clone, Copy, PartialEq, Eq)]
 pub struct Straps {
     pub kind: Kind,

@@ -8,7 +8,8 @@ ghost use Rattle.rules.specs.Facts.{Known, KnownPlace};
 
 use crate::state::{Flags, Phase};
 
-// A register of a channel: STATUS n, or the one at C0h, D0h or E0h + 0 to Fh. Setting 0 to 5 are FRAMECNT, REFRATE, SCLL, SCLH, MODE and TIMEOUT.
+// A register of a channel: STATUS n, or the one at C0h, D0h or E0h + 0 to Fh. Setting 0 to 5 are FRAMECNT, REFRATE, SCLL, SCLH, MODE and TIMEOUT:
+// by number, since the six share one rule, and `register_at` counts them off.
 #[derive(Clone, Copy, PartialEq, Eq)]
 pub enum Register {
     Status(usize),
@@ -40,16 +41,12 @@ pub struct Command {
 fn status_place(c: u8, a: u8) -> Option<Register>
     ensures { (result ≡ status_place c a) × KnownPlace result }
 {
-    if a / 64 == c {
-        Some(Register::Status((a % 64) as usize))
-    } else {
-        None
-    }
+    (a / 64 == c).then_some(Register::Status((a % 64) as usize))
 }
 
-fn table_at(n: u8) -> Register
-    requires { n ≤ 8 }
-    ensures { (result ≡ table_at n) × Known result }
+fn register_at(n: u8) -> Register
+    requires { n < 16 }
+    ensures { (result ≡ register_at n) × Known result }
 {
     match n {
         0x0 => Register::Control,
@@ -60,37 +57,17 @@ fn table_at(n: u8) -> Register
         0x5 => Register::Data,
         0x6 => Register::Transel,
         0x7 => Register::Tranofs,
-        _ => Register::Bytecount,
+        0x8 => Register::Bytecount,
+        0xF => Register::Preset,
+        _ => Register::Setting(n as usize - 9),
     }
-}
-
-fn setting_at(n: u8) -> Register
-    requires { (8 < n) × (n < 16) }
-    ensures { (result ≡ setting_at n) × Known result }
-{
-    if n == 0xF {
-        Register::Preset
-    } else {
-        Register::Setting(n as usize - 9)
-    }
-}
-
-fn register_at(n: u8) -> Register
-    requires { n < 16 }
-    ensures { (result ≡ register_at n) × Known result }
-{
-    if 8 < n { setting_at(n) } else { table_at(n) }
 }
 
 fn register_place(c: u8, a: u8) -> Option<Register>
     requires { c ≤ 2 }
     ensures { (result ≡ register_place c a) × KnownPlace result }
 {
-    if a / 16 == 12 + c {
-        Some(register_at(a % 16))
-    } else {
-        None
-    }
+    (a / 16 == 12 + c).then_some(register_at(a % 16))
 }
 
 // What stands at address a for channel c: one of its registers, or none.
@@ -113,6 +90,7 @@ pub fn bit(v: u8, w: u8) -> bool
     v / w % 2 == 1
 }
 
+// A function and no `From<u8>`: `command_of_once` promises it as one.
 pub fn command_of(v: u8) -> Command
     ensures { result ≡ command_of v }
 {
@@ -133,6 +111,7 @@ pub fn weight(b: bool, w: u8) -> u8
     if b { w } else { 0 }
 }
 
+// Bit by bit, as definition `control_value` has them.
 pub fn control_value(seq: bool, sta: bool, sto: bool, tp: bool, te: bool) -> u8
     ensures { result ≡ control_value seq sta sto tp te }
 {
@@ -163,7 +142,7 @@ pub const REMSK: u8 = 0x10;
 
 pub const FEMSK: u8 = 0x01;
 
-// INTMSK's bits 3 to 1 are kept 0.
+// INTMSK's bits 3 to 1 are kept 0. By division, as the definition has it: `&` would need laws of its own.
 pub fn mask_kept(v: u8) -> u8
     ensures { result ≡ mask_kept v }
 {

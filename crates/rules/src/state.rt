@@ -1,6 +1,6 @@
 // The parts of a channel's record.
 
-// Where a sequence on the wires stands. The transaction is kept in Address, Sending and Receiving only, as a byte, next to the phase.
+// Where a sequence on the wires stands. The transaction is kept in Address, Sending and Receiving only, as a byte, next to the phase: for speed (docs/SPEED.md).
 #[derive(Clone, Copy, PartialEq, Eq, Default)]
 pub enum Phase {
     #[default]

@@ -1,4 +1,5 @@
-// What the tables say: starts, skipped transactions, and the first that is not skipped.
+// What the tables say: starts, skipped transactions, and the first that is not skipped. Each table by itself, since this crate stands below `Channel`, whose
+// fields they are ('SLATABLE (64 bytes), TRANCONFIG (65)').
 ghost use Rattle.std.specs.Prelude.{◌≡◌, ◌*◌, ◌<◌, ◌≤◌, get_or, length, replicate};
 ghost use Rattle.rules.specs.Facts.{Skips};
 ghost use Rattle.rules.specs.Tables.{start_of, fitting, configured_at, reads_of, longest_skipped, skipped_of, first_sent, marked};
@@ -13,7 +14,7 @@ pub fn byte(x: u8) -> usize
     x as usize
 }
 
-// Where transaction v starts in the buffer: the sum of the v lengths before it.
+// Where transaction v starts in the buffer: the sum of the v lengths before it. A loop, whose invariant has the bound too: `sum()` promises none.
 pub fn start_of(lens: &[u8; 65], v: usize) -> usize
     requires { v ≤ 64 }
     ensures { (result ≡ start_of lens.now v) × (result ≤ 255 * v) }
@@ -34,7 +35,7 @@ pub fn fits(lens: &[u8; 65]) -> bool
     start_of(lens, byte(lens[0])) <= BUFFER
 }
 
-// Whether a place lies below the sum of the first count lengths, which are taken from it one by one: none is looked at behind the one that tells.
+// Whether a place lies below the sum of the first count lengths, which are taken from it one by one: none is looked at behind the one that tells, which is faster (docs/SPEED.md).
 pub(crate) fn configured(lens: &[u8; 65], at: usize) -> bool
     requires { get_or lens.now 0 0 ≤ 64 }
     ensures { result ≡ configured_at lens.now at }
@@ -66,6 +67,7 @@ fn longest_skipped(kind: Kind) -> u8
 }
 
 // Whether a transaction is skipped as done, on a channel that skips reads up to that length: so a loop asks for the kind once.
+#[tactic(auto, using(laws::specs::Cases::cases, crate::proofs::Laws::Tables::skips_of))]
 fn skips(most: u8, sla: u8, len: u8) -> bool
     ensures { Skips most sla len result }
 {
@@ -104,7 +106,7 @@ pub fn mark(status: &mut [u8; 64], from: usize, to: usize)
     status[from..to].fill(DONE_STATUS);
 }
 
-// Zeroes the bytes.
+// Zeroes the bytes. A function, since must-fail/reset_leaves_bytes is refused by its promise.
 pub fn wipe(mem: &mut [u8])
     ensures { mem.new ≡ replicate (length mem.old) 0 }
 {

@@ -1,6 +1,6 @@
 // Document 02, request Eleven: the numbers of actions and events, for whatever encodes them. This is the one table of such numbers.
 ghost use Rattle.std.specs.Prelude.{◌≡◌};
-ghost use Rattle.rules.specs.Tags.{tag, action_tag, plain_of, event_of};
+ghost use Rattle.rules.specs.Tags.{tag, action_tag, event_of};
 
 use crate::wires::{Action, Event, Level};
 
@@ -28,27 +28,21 @@ pub fn action_tag(a: Action) -> Tag
     }
 }
 
-#[tactic(auto, using(laws::specs::Cases::cases), unfolding(crate::specs::Tags::plain_of))]
-fn plain(e: Event, value: u8) -> Option<Event>
-    ensures { result ≡ plain_of e value }
-{
-    (value == 0).then_some(e)
-}
-
 // What a channel hears, out of numbers, or that the tag is no event's.
+#[tactic(auto, unfolding(crate::specs::Tags::known_as, crate::specs::Tags::same_tag))]
 pub fn event_of(kind: u8, value: u8) -> Option<Event>
     ensures { result ≡ event_of (tag kind value) }
 {
-    match kind {
-        9 => plain(Event::Ninth(Level::Low), value),
-        10 => Some(Event::Byte(value)),
-        11 => plain(Event::Ninth(Level::High), value),
-        12 => plain(Event::Tick, value),
-        13 => plain(Event::Stop, value),
-        14 => plain(Event::Sda, value),
-        15 => plain(Event::Scl, value),
-        16 => plain(Event::Ill, value),
-        20 => plain(Event::Sent, value),
+    match (kind, value) {
+        (9, 0) => Some(Event::Ninth(Level::Low)),
+        (10, _) => Some(Event::Byte(value)),
+        (11, 0) => Some(Event::Ninth(Level::High)),
+        (12, 0) => Some(Event::Tick),
+        (13, 0) => Some(Event::Stop),
+        (14, 0) => Some(Event::Sda),
+        (15, 0) => Some(Event::Scl),
+        (16, 0) => Some(Event::Ill),
+        (20, 0) => Some(Event::Sent),
         _ => None,
     }
 }

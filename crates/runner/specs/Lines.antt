@@ -1,6 +1,5 @@
 -- The lines of a block of bytes: where each ends, and what is kept of one that the block does not end.
-use Rattle.std.specs.Prelude.{ℕ, ◌+◌, List, [], ◌∷◌, eqb, ltb, take, drop, replicate, set}
-use Rattle.laws.specs.Pick.{when◌then◌else◌}
+use Rattle.std.specs.Prelude.{ℕ, ◌+◌, List, [], ◌∷◌, eqb, ltb, take, drop, replicate, set, if◌then◌else◌}
 use Rattle.script.specs.Grammar.{line_room}
 use Rattle.runner.specs.declared.lines.Start.{Start}
 
@@ -9,7 +8,7 @@ use Rattle.runner.specs.declared.lines.Start.{Start}
 -- the place of the first LF in some bytes, or their end
 abbrev pub first_lf : List ℕ → ℕ
 first_lf [] = 0
-first_lf (b ∷ l) = when eqb b 10 then 0 else first_lf l + 1
+first_lf (b ∷ l) = if eqb b 10 then 0 else first_lf l + 1
 
 -- where the line ends that starts at a place of the block; at the block's end if no LF follows
 unfoldable pub line_end : List ℕ → ℕ → ℕ
@@ -23,7 +22,7 @@ no_line = record { bytes = replicate line_room 0; len = 0 }
 
 -- one more byte, while there are fewer than `line_room`: the first `line_room` are read as the whole line is (`read_in_pieces`, proofs/Laws/Lines.antt)
 unfoldable pub with_byte : Start → ℕ → Start
-with_byte s b = when ltb s.len line_room then record { bytes = set s.bytes s.len b; len = s.len + 1 } else s
+with_byte s b = if ltb s.len line_room then record { bytes = set s.bytes s.len b; len = s.len + 1 } else s
 
 -- the line with more of its bytes
 abbrev pub lengthened : Start → List ℕ → Start
@@ -32,7 +31,7 @@ lengthened s (b ∷ l) = lengthened (with_byte s b) l
 
 -- how many bytes are kept of a line, `line_room` at most
 unfoldable pub kept_of : ℕ → ℕ
-kept_of len = when ltb len line_room then len else line_room
+kept_of len = if ltb len line_room then len else line_room
 
 -- the bytes that are kept
 abbrev pub kept_bytes : Start → List ℕ

@@ -1,6 +1,5 @@
 -- WHAT A SCRIPT'S BYTES COME TO: its lines, each a step of the part, and a line of text for each. How far the program is proved to keep to it, docs/PROMISES.md says.
-use Rattle.std.specs.Prelude.{ℕ, ◌+◌, List, [], ◌∷◌, ◌++◌, eqb}
-use Rattle.laws.specs.Pick.{when◌then◌else◌}
+use Rattle.std.specs.Prelude.{ℕ, ◌+◌, List, [], ◌∷◌, ◌++◌, eqb, if◌then◌else◌}
 use Rattle.part.specs.Registers.{interrupt_of}
 use Rattle.rules.specs.declared.parts.Device.TheVariants.{Pca9663}
 use Rattle.independent.specs.Keys.{at_reset}
@@ -13,12 +12,12 @@ use Rattle.runner.specs.Run.{the_script}
 -- the lines that end, where `line` is what came of the first one before
 unfoldable pub ended_lines : List ℕ → List ℕ → List (List ℕ)
 ended_lines line [] = []
-ended_lines line (b ∷ l) = when eqb b 10 then line ∷ ended_lines [] l else ended_lines (line ++ (b ∷ [])) l
+ended_lines line (b ∷ l) = if eqb b 10 then line ∷ ended_lines [] l else ended_lines (line ++ (b ∷ [])) l
 
 -- what follows the last LF
 unfoldable pub rest_of : List ℕ → List ℕ → List ℕ
 rest_of line [] = line
-rest_of line (b ∷ l) = when eqb b 10 then rest_of [] l else rest_of (line ++ (b ∷ [])) l
+rest_of line (b ∷ l) = if eqb b 10 then rest_of [] l else rest_of (line ++ (b ∷ [])) l
 
 -- it is a line if it has a byte
 abbrev pub last_line : List ℕ → List (List ℕ)
@@ -32,7 +31,7 @@ lines_of input = ended_lines [] input ++ last_line (rest_of [] input)
 
 -- the number of the next step, which stays at the largest one
 unfoldable pub number_after : ℕ → ℕ
-number_after step = when eqb step 18446744073709551615 then step else step + 1
+number_after step = if eqb step 18446744073709551615 then step else step + 1
 
 -- where a script stands: the part and its memory, and the number of the last step
 pub record Desk : Type 0 where

@@ -38,13 +38,14 @@ fn next_number(step: u64) -> u64
     step.saturating_add(1)
 }
 
-// Answers the lines that end in the block, from a place on.
+// Answers the lines that end in the block, from a place on. The course is handed in and back by value, as `Answered` relates the two.
 pub fn answer_lines(s: Course, block: &[u8], mem: &mut [u8], out: &mut [u8]) -> Course
     requires { Whole s.part mem.old × (s.from ≤ length block.now) × Room block.now s.from s.at out.old }
     ensures { Answered block.now s mem.old out.old result mem.new out.new }
 {
     let mut c = s;
     let mut end = line_end(block, c.from);
+    // by places, as `line_end` promises them
     while end < block.len() {
         let answer = do_line(&mut c.part, mem, &block[c.from..end]);
         c.step = next_number(c.step);

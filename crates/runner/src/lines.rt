@@ -6,8 +6,8 @@ ghost use Rattle.runner.specs.Lines.{no_line, with_byte, lengthened, kept_of, li
 
 use script::LINE_ROOM;
 
-// The line that is being read: as many of its first bytes as tell how it is read, since a line of LINE_ROOM bytes or more can't be. An array and a length: no
-// program here has a heap for a Vec.
+// The line that is being read: as many of its first bytes as tell how it is read, since a line of LINE_ROOM bytes or more can't be. An array and a
+// length: `no_line` and `with_byte` are definitions over both, and `Seat` of bench is Copy, which an ArrayVec is not.
 #[derive(Clone, Copy)]
 pub struct Start {
     pub bytes: [u8; LINE_ROOM],
@@ -38,16 +38,16 @@ impl Start {
 }
 
 // The line with more of its bytes.
-pub fn lengthen(line: Start, more: &[u8]) -> Start
+pub fn lengthen(mut line: Start, more: &[u8]) -> Start
     ensures { result ≡ lengthened line more.now }
 {
-    let mut longer = line;
     for &b in more {
-        longer.push(b);
+        line.push(b);
     }
-    longer
+    line
 }
 
+// Of a length alone, as `put_start` takes bytes and number: `begun_line_lost` is refused by the call with another length.
 pub fn kept(len: usize) -> usize
     ensures { (result ≡ kept_of len) × (result ≤ line_room) }
 {
@@ -66,7 +66,7 @@ pub fn put_start(bytes: [u8; LINE_ROOM], n: usize, block: &mut [u8]) -> usize
     at
 }
 
-// The place of the first LF from a place on, or the block's end.
+// The place of the first LF from a place on, or the block's end: a place in both cases, as definition `line_end`.
 pub fn line_end(block: &[u8], from: usize) -> usize
     requires { from ≤ length block.now }
     ensures { result ≡ line_end block.now from }

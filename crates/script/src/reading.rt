@@ -30,7 +30,7 @@ fn hex(b: u8) -> u8
 fn digit_at(line: &[u8], i: usize) -> u8
     ensures { (result ≡ digit_at line.now i) × (result < 16) }
 {
-    if i < line.len() { hex(line[i]) } else { 0 }
+    line.get(i).map_or(0, |&b| hex(b))
 }
 
 #[tactic(auto, unfolding(crate::specs::Grammar::line_room))]
@@ -45,7 +45,11 @@ fn byte_at(line: &[u8], i: usize) -> u8
 fn suits(letter: u8, b: u8) -> bool
     ensures { result ≡ suiting letter b }
 {
-    if 97 <= letter { is_hex(b) } else { b == letter }
+    if b'a' <= letter {
+        is_hex(b)
+    } else {
+        b == letter
+    }
 }
 
 fn in_form(form: &[u8], line: &[u8]) -> bool
@@ -53,6 +57,8 @@ fn in_form(form: &[u8], line: &[u8]) -> bool
 {
     form.len() == line.len() && form.iter().zip(line).all(|(&letter, &b)| suits(letter, b))
 }
+
+// ---- the forms: each test is a row of the grammar, in its order (`line_of`); slice patterns would not show the forms as texts
 
 fn wire(line: &[u8], e: Event) -> Option<Step>
     ensures { result ≡ wire_line line.now e }

@@ -1,6 +1,5 @@
 -- What the two commands come to: a channel's file after a script, and the script that types a file.
-use Rattle.std.specs.Prelude.{ℕ, ◌≤◌, List, ◌≡◌, length, eqb, Result, Ok, Err, IfOk}
-use Rattle.laws.specs.Pick.{when◌then◌else◌}
+use Rattle.std.specs.Prelude.{ℕ, ◌≤◌, List, ◌≡◌, length, eqb, Result, Ok, Err, IfOk, if◌then◌else◌}
 use Rattle.rules.specs.Numbers.{done}
 use Rattle.rules.specs.declared.parts.Device.TheVariants.{Pca9663}
 use Rattle.mixes.specs.Mix.{ends}
@@ -22,7 +21,7 @@ after_script script = ends the_script (at_reset Pca9663) (lines_of script)
 
 -- the length of what was made, by the number of the library's answer; or a refusal's number
 abbrev pub sized : ℕ → ℕ → Result ℕ ℕ
-sized number len = when eqb number done then Ok len else Err number
+sized number len = if eqb number done then Ok len else Err number
 
 -- `save c`: the library's answer and output for channel c after the script, over the output o; and how many bytes of it are the file
 pub record Saves (c : ℕ) (script o : List ℕ) (r : Saved) (o' : List ℕ) : Type 0 where

@@ -1,6 +1,5 @@
 -- What `./seq save` makes of a script's lines: the part and the memory after them, and which of them were refused.
-use Rattle.std.specs.Prelude.{ℕ, ◌+◌, List, [], ◌∷◌, ◌≡◌, eqb, Option, Some, None}
-use Rattle.laws.specs.Pick.{when◌then◌else◌}
+use Rattle.std.specs.Prelude.{ℕ, ◌+◌, List, [], ◌∷◌, ◌≡◌, eqb, Option, Some, None, if◌then◌else◌}
 use Rattle.rules.specs.Numbers.{done}
 use Rattle.rules.specs.declared.parts.Device.TheVariants.{Pca9663}
 use Rattle.part.specs.State.{fresh_part}
@@ -22,12 +21,12 @@ none_yet = record { lines = 0; refused = 0; first = None }
 
 -- the first refused line after one more, which got number n
 abbrev pub first_of : Tally → ℕ → Option Refused
-first_of t n = when eqb t.refused 0 then Some (record { line = t.lines + 1; number = n }) else t.first
+first_of t n = if eqb t.refused 0 then Some (record { line = t.lines + 1; number = n }) else t.first
 
 -- one more line, which got number n: any number but 0 is a refusal, and the first of them is kept
 unfoldable pub counted : Tally → ℕ → Tally
 counted t n =
-    when eqb n done then record { lines = t.lines + 1; refused = t.refused; first = t.first } else
+    if eqb n done then record { lines = t.lines + 1; refused = t.refused; first = t.first } else
     record { lines = t.lines + 1; refused = t.refused + 1; first = first_of t n }
 
 -- the tally of some lines, from a state on, behind those before them

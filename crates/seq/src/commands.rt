@@ -8,9 +8,9 @@ ghost use Rattle.seq.specs.Commands.{Saves, Loads};
 use crate::lines::{Tally, run_lines};
 use crate::typing::type_file;
 use part::Part;
-use rules::{DONE, Device, MEMORY, byte};
+use rules::{DONE, Device, MEMORY};
 
-// The tally of a script's lines, and the length of the file, or the number of the library's refusal.
+// The tally of a script's lines, and the length of the file, or the number of the library's refusal, as `files::save_from` answers it.
 #[derive(Clone, Copy)]
 pub struct Saved {
     pub tally: Tally,
@@ -22,7 +22,7 @@ fn size(file: &[u8]) -> usize
     requires { 12 ≤ length file.now }
     ensures { result ≡ size_in file.now }
 {
-    byte(file[10]) + 256 * byte(file[11])
+    usize::from(u16::from_le_bytes([file[10], file[11]]))
 }
 
 // Channel c's sequence after a script, as a file.
@@ -33,16 +33,12 @@ pub fn save_file(c: u8, script: &[u8], file: &mut [u8]) -> Saved
     let mut mem = [0; MEMORY];
     let ran = run_lines(script, &mut mem);
     let r = files::save_from(ran.part, &mem, c, file);
-    let number = r.answer.number;
-    if number != DONE {
-        return Saved {
-            tally: ran.tally,
-            len: Err(number),
-        };
-    }
     Saved {
         tally: ran.tally,
-        len: Ok(size(file)),
+        len: match r.answer.number {
+            DONE => Ok(size(file)),
+            number => Err(number),
+        },
     }
 }
 
@@ -53,9 +49,8 @@ pub fn load_text(c: u8, file: &[u8], out: &mut [u8]) -> Result<usize, u8>
 {
     let mut mem = [0; MEMORY];
     let r = files::load_into(Part::new(Device::Pca9663), &mut mem, c, file);
-    let number = r.answer.number;
-    if number != DONE {
-        return Err(number);
+    match r.answer.number {
+        DONE => Ok(type_file(c, file, out)),
+        number => Err(number),
     }
-    Ok(type_file(c, file, out))
 }

@@ -7,18 +7,17 @@ ghost use Rattle.files.specs.Typed.{each_to};
 ghost use Rattle.seq.specs.Typing.{write, script_of, blocks_typed, typing_all, text_room};
 
 use files::HEADER;
-use letters::digit;
+use letters::hex;
 use rules::byte;
 
 // Puts the line `W aa dd` at a place, and gives the place after it.
+#[tactic(auto, unfolding(crate::specs::Typing::script_of))]
 fn put_write(out: &mut [u8], at: usize, a: u8, v: u8) -> usize
     requires { at + 8 ≤ length out.old }
     ensures { Put out.old at (script_of (write a v ∷ [])) result out.new × (result ≡ at + 8) }
 {
-    let page = digit(a / 16);
-    let place = digit(a % 16);
-    let high = digit(v / 16);
-    let low = digit(v % 16);
+    let [page, place] = hex(a);
+    let [high, low] = hex(v);
     answers::put(out, at, &[b'W', b' ', page, place, b' ', high, low, b'\n'])
 }
 
@@ -35,6 +34,7 @@ fn put_each(out: &mut [u8], at: usize, a: u8, bytes: &[u8]) -> usize
 }
 
 // The script that types the blocks of a file to the registers from base on: pointers reset, TRANCONFIG before DATA, pointers reset again.
+// `blocks_typed` takes what the file has one by one.
 fn type_blocks(
     base: u8,
     count: u8,

@@ -1,6 +1,5 @@
 -- The changes of a walk and of the flags of CHSTATUS that the rules make.
-use Rattle.std.specs.Prelude.{ℕ, Bool, true, false}
-use Rattle.laws.specs.Pick.{when◌then◌else◌}
+use Rattle.std.specs.Prelude.{ℕ, Bool, true, false, if◌then◌else◌}
 use Rattle.rules.specs.declared.state.Phase.{Phase}
 use Rattle.rules.specs.declared.state.Phase.TheVariants.{Idle, Stopping, Waiting}
 use Rattle.rules.specs.declared.state.Flags.{Flags}
@@ -49,7 +48,7 @@ re_set f = record { sd = f.sd; fld = f.fld; we = f.we; re = true; dae = f.dae; c
 
 -- WE for a write, RE for a read
 unfoldable pub nack_flags : Flags → Bool → Flags
-nack_flags f read = when read then re_set f else we_set f
+nack_flags f read = if read then re_set f else we_set f
 
 -- unmasked: P, an error end
 abbrev pub error_noted : Walk → Walk
@@ -67,11 +66,11 @@ fe_recorded w = record { phase = w.phase; ended = w.ended; sto = w.sto; seq = w.
 
 -- late with FEMSK 1: FE set, no more
 unfoldable pub late_flags : Flags → Bool → Flags
-late_flags f femsk = when femsk then fe_set f else f
+late_flags f femsk = if femsk then fe_set f else f
 
 -- otherwise FE is recorded
 unfoldable pub late_walk : Walk → Bool → Walk
-late_walk w femsk = when femsk then w else fe_recorded w
+late_walk w femsk = if femsk then w else fe_recorded w
 
 -- ---- SDA, SCL, ILL
 

@@ -1,6 +1,5 @@
 -- Document 01, 'A sequence on the wires': what a write to CONTROL asks for, how a frame begins, what an event comes to, where a walk goes on, how a frame ends, and a trigger edge.
-use Rattle.std.specs.Prelude.{ℕ, ◌+◌, Bool, true, false, not, List, eqb, ltb, get_or}
-use Rattle.laws.specs.Pick.{when◌then◌else◌}
+use Rattle.std.specs.Prelude.{ℕ, ◌+◌, Bool, true, false, not, List, eqb, ltb, get_or, if◌then◌else◌}
 use Rattle.rules.specs.declared.parts.Kind.{Kind}
 use Rattle.rules.specs.declared.state.Phase.{Phase}
 use Rattle.rules.specs.declared.state.Phase.TheVariants.{Idle, Address, Sending, Receiving, Stopping, Waiting}
@@ -38,15 +37,15 @@ use Rattle.rules.specs.Tables.{first_sent}
 
 -- both written, only STO counts; otherwise they are recorded and read 1 until Idle
 unfoldable pub stop_asked : Bool → Bool → Ask
-stop_asked sto seq = when sto then Sto else when seq then Seq else Nothing
+stop_asked sto seq = if sto then Sto else if seq then Seq else Nothing
 
 -- STA written 1 when Idle begins a frame, or Waiting if TE is 1
 unfoldable pub start_asked : Bool → Bool → Ask
-start_asked sta te = when sta then (when te then WaitAsk else BeginAsk) else Nothing
+start_asked sta te = if sta then (if te then WaitAsk else BeginAsk) else Nothing
 
 -- STO or STOSEQ in Waiting: SD, FLD under the same rule, Idle at once
 unfoldable pub leave_asked : Bool → Bool → Ask
-leave_asked sto seq = when sto then Leave else when seq then Leave else Nothing
+leave_asked sto seq = if sto then Leave else if seq then Leave else Nothing
 
 -- STO or STOSEQ with STA stored 0 is ignored; STA written to a channel active before that write does nothing
 unfoldable pub asked_in : Phase → Command → Bool → Ask
@@ -59,13 +58,13 @@ asked_in Waiting k te = leave_asked k.sto k.stoseq
 
 -- where AIPTRRST is answered no. 5, the write's STA, STO and STOSEQ are dropped
 unfoldable pub ask_of : Phase → Command → Bool → Bool → Ask
-ask_of p k te over = when over then Overrun else asked_in p k te
+ask_of p k te over = if over then Overrun else asked_in p k te
 
 -- ---- a frame begins
 
 -- count 0; lengths of the first count transactions summing above 4,352; otherwise
 unfoldable pub beginning_of : ℕ → Bool → Beginning
-beginning_of count fit = when eqb count 0 then Empty else when fit then Fit else Unfit
+beginning_of count fit = if eqb count 0 then Empty else if fit then Fit else Unfit
 
 -- later ones a repeated START; after BYTE, NR
 abbrev pub again_by : Tail → ℕ → Action
@@ -108,25 +107,25 @@ ninth_turn p High = nack_turn p
 
 -- WE for a write, RE for a read: masked by INTMSK or not
 unfoldable pub masked_of : ℕ → Bool → Bool
-masked_of intmsk read = when read then bit_of intmsk remsk else bit_of intmsk wemsk
+masked_of intmsk read = if read then bit_of intmsk remsk else bit_of intmsk wemsk
 
 -- ---- after each
 
 -- with FE or STO recorded
 unfoldable pub halted_of : Bool → Bool → Bool
-halted_of fe sto = when fe then true else sto
+halted_of fe sto = if fe then true else sto
 
 -- after n bytes (0: the address of a write): next byte, or done; with FE or STO recorded, a transaction is cut short
 unfoldable pub next_of : Bool → ℕ → ℕ → Next
-next_of halt n len = when ltb n len then (when halt then Cut else More) else Over
+next_of halt n len = if ltb n len then (if halt then Cut else More) else Over
 
 -- behind transaction n the walk goes on to the next that is not skipped, or the count; with FE or STO recorded it does not
 unfoldable pub reach_of : Kind → Bool → ℕ → List ℕ → List ℕ → ℕ
-reach_of kind halt n sla lens = when halt then n + 1 else first_sent kind sla lens (n + 1) (get_or lens 0 0)
+reach_of kind halt n sla lens = if halt then n + 1 else first_sent kind sla lens (n + 1) (get_or lens 0 0)
 
 -- P with FE or STO recorded, and after the last; else the next transaction
 unfoldable pub move_of : Bool → ℕ → ℕ → Move
-move_of halt to count = when halt then Halt else when ltb to count then Send to else Halt
+move_of halt to count = if halt then Halt else if ltb to count then Send to else Halt
 
 -- P, or NP after BYTE
 abbrev pub stop_by : Tail → Action
@@ -137,7 +136,7 @@ stop_by Nacked = Np
 
 -- TICK (TE 0, FRAMECNT not 1)
 unfoldable pub ticking_of : Bool → ℕ → Bool
-ticking_of te framecnt = when te then false else not (eqb framecnt 1)
+ticking_of te framecnt = if te then false else not (eqb framecnt 1)
 
 -- in Waiting begins a frame; in a frame it is late. The same of a trigger edge, which does nothing if Idle
 abbrev pub beat_of : Phase → Beat
@@ -156,7 +155,7 @@ beat_turn Late = LateTurn
 
 -- with TE 1 or FRAMECNT 1 a TICK is not awaited
 unfoldable pub tick_turn : Phase → Bool → ℕ → Turn
-tick_turn p te framecnt = when ticking_of te framecnt then beat_turn (beat_of p) else Unawaited
+tick_turn p te framecnt = if ticking_of te framecnt then beat_turn (beat_of p) else Unawaited
 
 -- STOP in Stopping ends the frame
 abbrev pub stop_turn : Phase → Turn
@@ -208,28 +207,28 @@ hears_of kind Ill = true
 hears_of kind Sent = not (is_fm kind)
 
 unfoldable pub turn_of : Kind → Phase → Bool → ℕ → Event → Turn
-turn_of kind p te framecnt e = when hears_of kind e then heard_turn p te framecnt e else Unawaited
+turn_of kind p te framecnt e = if hears_of kind e then heard_turn p te framecnt e else Unawaited
 
 -- ---- a frame's end
 
 -- Frame end, first that applies: FE recorded; error end; STO; STOSEQ; the rest
 unfoldable pub ending_of : Bool → Bool → Bool → Bool → Ending → Ending
 ending_of fe error sto seq rest =
-    when fe then Fe else
-    when error then Error else
-    when sto then Sd else
-    when seq then Sd else rest
+    if fe then Fe else
+    if error then Error else
+    if sto then Sd else
+    if seq then Sd else rest
 
 -- TE 1 or FRAMECNT 0: SD, Waiting. Frames left (fewer than FRAMECNT ended since STA, this one counted): SD, Waiting. Last: SD, Idle
 unfoldable pub rest_of : Bool → ℕ → ℕ → Ending
 rest_of te framecnt ended =
-    when te then Wait 0 else
-    when eqb framecnt 0 then Wait 0 else
-    when ltb (ended + 1) framecnt then Wait (ended + 1) else Sd
+    if te then Wait 0 else
+    if eqb framecnt 0 then Wait 0 else
+    if ltb (ended + 1) framecnt then Wait (ended + 1) else Sd
 
 -- FLD joins SD wherever the channel goes Idle, unless TE is 0 and FRAMECNT is 1
 unfoldable pub fld_after : Bool → ℕ → Bool → Bool
-fld_after te framecnt old = when te then true else when eqb framecnt 1 then old else true
+fld_after te framecnt old = if te then true else if eqb framecnt 1 then old else true
 
 -- ---- a trigger edge
 
@@ -240,4 +239,4 @@ matches_of tp Falling = tp
 
 -- each channel with TE 1 and matching TP begins a frame if Waiting, is late if a frame runs, and does nothing if Idle
 unfoldable pub edge_beat : Phase → Bool → Bool → Edge → Beat
-edge_beat p te tp edge = when te then (when matches_of tp edge then beat_of p else Quiet) else Quiet
+edge_beat p te tp edge = if te then (if matches_of tp edge then beat_of p else Quiet) else Quiet

@@ -1,4 +1,7 @@
 // Document 01, 'A sequence on the wires': what a write to CONTROL asks for, how a frame begins, what an event comes to, where a walk goes on, how a frame ends, and a trigger edge.
+// TE and FRAMECNT stand side by side, since they are of two structs (Regs, Settings) by the data sheet, and each definition takes both; the tables each by
+// itself, since this crate stands below `Channel`; `halted` and `ends` take the recorded bits, since a `Walk` would ask more of callers. `again_by`, `stop_by`
+// and `beat_turn` are tables of document 01 by their names, where a `From` would be no plainer.
 #![tactic(auto, using(crate::proofs::Laws::Wires::frames), unfolding(crate::specs::Wires::stop_asked, crate::specs::Wires::start_asked, crate::specs::Wires::leave_asked, crate::specs::Wires::asked_in, crate::specs::Wires::ask_of, crate::specs::Wires::beginning_of, crate::specs::Wires::masked_of, crate::specs::Wires::halted_of, crate::specs::Wires::next_of, crate::specs::Wires::reach_of, crate::specs::Wires::move_of, crate::specs::Wires::ticking_of, crate::specs::Wires::tick_turn, crate::specs::Wires::heard_turn, crate::specs::Wires::turn_of, crate::specs::Wires::ending_of, crate::specs::Wires::rest_of, crate::specs::Wires::fld_after, crate::specs::Wires::edge_beat))]
 
 ghost use Rattle.std.specs.Prelude.{◌≡◌, ◌+◌, ◌<◌, ◌≤◌, length, set, get_or};
@@ -13,6 +16,8 @@ use rules::{
     Action, Command, Edge, Event, Kind, Level, Phase, REMSK, WEMSK, bit, byte, first_sent, is_fm,
     start_of,
 };
+
+// Which step to run is the value of a definition (`ask_of`, `beginning_of`, `turn_of`, `next_of`, `edge_beat`, `ending_of`) and promised, so an enum and no closure.
 
 // What is left of a write to CONTROL after TP, TE and the pointer resets.
 #[derive(Clone, Copy, PartialEq, Eq)]
@@ -173,6 +178,7 @@ pub fn again_by(t: Tail, sla: u8) -> Action
 
 // ---- events
 
+// ACK and NACK by themselves: two rows of document 01, two definitions.
 fn ack_turn(p: Phase) -> Turn
     ensures { result ≡ ack_turn p }
 {
@@ -239,15 +245,7 @@ pub fn next_byte(halt: bool, n: usize, len: usize) -> Next
     }
 }
 
-// BYTECOUNT plus one.
-pub fn count_one(counts: &mut [u8; 64], n: usize)
-    requires { (n < 64) × (get_or counts.old n 0 < 255) }
-    ensures { counts.new ≡ set counts.old n (get_or counts.old n 0 + 1) }
-{
-    counts[n] += 1;
-}
-
-// The byte of a BYTE stored: behind those of transaction n that came before it.
+// The byte of a BYTE stored: behind those of transaction n that came before it. By itself, since must-fail/byte_not_stored is refused by it.
 pub fn store(lens: &[u8; 65], counts: &[u8; 64], mem: &mut [u8], n: usize, b: u8)
     requires { Counting lens.now counts.now n × (length mem.old ≡ buffer_size) }
     ensures { mem.new ≡ set mem.old (start_of lens.now n + get_or counts.now n 0) b }

@@ -1,5 +1,4 @@
 -- What the bench sheet is a table of: a model of the part; and the part as one, by `part_step` and `part_bytes`, which the promise of `Part::step` cites.
-use Rattle.laws.specs.Pick.{when◌then◌else◌}
 use Rattle.rules.specs.Access.{busy_refusal, past_refusal, too_many, place_refusal, sla_refusal, conf_refusal, spot_of, data_refusal, sel_refusal, kept_if, rewound, pointed_at, overrun_of, key_after, resets_of}
 use Rattle.bounds.specs.Range.{pointers_in, registers_in, counting_of, ended_in, blank_of, recorded_in, walk_in, standing, counted_in, clear_from, counts_in, frame_at, frame_in, kinds_in}
 use Rattle.rules.specs.Registers.{setting_at, table_at, register_at, status_place, register_place, place_of, weigh, control_value, chstatus_value}
@@ -30,8 +29,7 @@ pub record Model : Type 0 where
 
 -- the part; whatever a step of the sheet computes with is opened by its name
 unfoldable pub the_part : Model
-unfolding when◌then◌else◌
-    busy_refusal past_refusal too_many place_refusal sla_refusal conf_refusal spot_of data_refusal sel_refusal kept_if rewound pointed_at overrun_of key_after resets_of
+unfolding busy_refusal past_refusal too_many place_refusal sla_refusal conf_refusal spot_of data_refusal sel_refusal kept_if rewound pointed_at overrun_of key_after resets_of
     pointers_in registers_in counting_of ended_in blank_of recorded_in walk_in standing counted_in clear_from counts_in frame_at frame_in kinds_in
     setting_at table_at register_at status_place register_place place_of weigh control_value chstatus_value
     start_of fitting configured_at read_skipped skipped_of sent_from mark_from

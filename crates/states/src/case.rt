@@ -63,11 +63,7 @@ fn byte(value: u16) -> Option<u8> {
 
 // A value up to the largest one that its name takes.
 fn up_to(most: u16, value: u16) -> Option<usize> {
-    if value <= most {
-        Some(value as usize)
-    } else {
-        None
-    }
+    (value <= most).then_some(usize::from(value))
 }
 
 // The digits of a value, and nothing else: `parse` takes a sign too.

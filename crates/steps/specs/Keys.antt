@@ -1,6 +1,5 @@
 -- Document 01, 'Writing A5h to PRESET', and document 02, request Two: which register is CTRLPRESET, and which steps forget a key.
-use Rattle.std.specs.Prelude.{ℕ, Bool, true, false}
-use Rattle.laws.specs.Pick.{when◌then◌else◌}
+use Rattle.std.specs.Prelude.{ℕ, Bool, true, false, if◌then◌else◌}
 use Rattle.steps.specs.declared.map.Ctrl.{Ctrl}
 use Rattle.steps.specs.declared.map.Ctrl.TheVariants.{Ctrlstatus, Ctrlintmsk, Reserved, DeviceId, Ctrlpreset, Nothing, Ctrlrdy}
 use Rattle.steps.specs.declared.map.Op.{Op}
@@ -37,5 +36,5 @@ wide_writes Beyond = false
 -- 'forgets every other pending A5h': `but x c` is x with every key forgotten but that of channel c, or for c 3 that of CTRLPRESET; what becomes of this one, its
 -- own register's rule says. No other step forgets any
 abbrev pub write_forgets : {A : Type 0} → (A → ℕ → A) → Target → A → A
-write_forgets but (One op c) x = when op_writes op then but x c else x
-write_forgets but (All t) x = when wide_writes t then but x 3 else x
+write_forgets but (One op c) x = if op_writes op then but x c else x
+write_forgets but (All t) x = if wide_writes t then but x 3 else x

@@ -7,40 +7,31 @@ ghost use Rattle.steps.specs.Answer.{quiet, act_if, only_at, numbered, valued};
 
 use rules::{Action, DONE, Refusal};
 
-// What one channel does on its wires.
-#[derive(Clone, Copy, PartialEq, Eq)]
-pub struct Act {
-    pub action: Action,
-}
-
-// The number of document 01, the value of a read, and an action for each channel.
+// The number of document 01, the value of a read, and an action for each channel. A number and no `Result`: document 01 has it as a byte of the answer. Made by the same
+// four as a channel's `Answer`: a generic one would change the record of each definition.
 #[derive(Clone, Copy, PartialEq, Eq)]
 pub struct PartAnswer {
     pub number: u8,
     pub value: u8,
-    pub actions: [Act; 3],
+    pub actions: [Action; 3],
 }
 
 // No action at all.
-pub fn no_acts() -> [Act; 3]
+pub fn no_acts() -> [Action; 3]
     ensures { result ≡ quiet }
 {
-    [Act {
-        action: Action::Nothing,
-    }; 3]
+    [Action::Nothing; 3]
 }
 
 // The action, if it is this channel's.
-fn act_if(mine: bool, action: Action) -> Act
+fn act_if(mine: bool, action: Action) -> Action
     ensures { result ≡ act_if mine action }
 {
-    Act {
-        action: if mine { action } else { Action::Nothing },
-    }
+    if mine { action } else { Action::Nothing }
 }
 
 // An action of channel c alone. Entry by entry: a store at an index is slower (docs/SPEED.md).
-pub fn act_at(c: u8, action: Action) -> [Act; 3]
+pub fn act_at(c: u8, action: Action) -> [Action; 3]
     requires { c < 3 }
     ensures { result ≡ only_at c action }
 {
@@ -80,9 +71,8 @@ impl PartAnswer {
         ensures { result ≡ valued value }
     {
         PartAnswer {
-            number: DONE,
             value,
-            actions: no_acts(),
+            ..PartAnswer::done()
         }
     }
 }

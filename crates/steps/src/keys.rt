@@ -1,4 +1,5 @@
-// Document 01, 'Writing A5h to PRESET', and document 02, request Two: which register is CTRLPRESET, and which steps are writes.
+// Document 01, 'Writing A5h to PRESET', and document 02, request Two: which register is CTRLPRESET, and which steps are writes: each by itself, since
+// must-fail/read_forgets and ctrl_write_is_none are refused by them.
 ghost use Rattle.std.specs.Prelude.{◌≡◌};
 ghost use Rattle.steps.specs.Keys.{ctrlpreset_of, op_writes, wide_writes};
 

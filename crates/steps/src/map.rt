@@ -54,6 +54,7 @@ pub enum Target {
     All(Wide),
 }
 
+// 3 for the whole part, as definition `channel_at` gives it.
 fn channel_at(a: u8) -> u8
     ensures { result ≡ channel_at a }
 {
@@ -74,6 +75,7 @@ fn ctrl_at(a: u8) -> Ctrl
     }
 }
 
+// Three, as the definitions are: one over a `Wide` would look up `ctrl_at` for a channel's address too.
 fn write_target(a: u8, v: u8) -> Target
     ensures { (result ≡ write_target a v) × InPart result }
 {
@@ -106,7 +108,7 @@ fn wire_target(c: u8, e: Event) -> Target
     }
 }
 
-// Whom a step concerns, for a caller that serves the channels itself.
+// Whom a step concerns.
 pub fn target_of(s: Step) -> Target
     ensures { (result ≡ target_of s) × InPart result }
 {

@@ -36,17 +36,23 @@ pub(crate) enum Call {
         channel: u8,
         lent: usize,
     },
-    // a number that is no call's, or no field's
-    Nothing,
 }
 
-impl From<[u8; 6]> for Call {
+// A number that is no call's, or no field's.
+#[derive(Clone, Copy)]
+pub(crate) struct NoCall;
+
+impl TryFrom<[u8; 6]> for Call {
+    type Error = NoCall;
+
     // What it is, its channel, the bytes that are lent or the field of a poke, and the value of a poke.
-    fn from([what, channel, low, high, value_low, value_high]: [u8; 6]) -> Self {
+    fn try_from(
+        [what, channel, low, high, value_low, value_high]: [u8; 6],
+    ) -> Result<Self, NoCall> {
         let number = u16::from_le_bytes([low, high]);
         let value = u16::from_le_bytes([value_low, value_high]);
         let lent = number as usize;
-        match what {
+        Ok(match what {
             0 => Call::Line,
             1 => Call::New(if channel == 1 {
                 Device::Pcu9669
@@ -59,14 +65,14 @@ impl From<[u8; 6]> for Call {
                     field,
                     value,
                 },
-                Err(_) => Call::Nothing,
+                Err(_) => return Err(NoCall),
             },
             3 => Call::Load { channel, lent },
             4 => Call::Save { channel, lent },
             5 => Call::LoadAlone { channel, lent },
             6 => Call::SaveAlone { channel, lent },
-            _ => Call::Nothing,
-        }
+            _ => return Err(NoCall),
+        })
     }
 }
 
@@ -143,7 +149,6 @@ impl Call {
                 let own = &mem[BUFFER * i..][..lent.min(BUFFER + 2)];
                 put_back(part, i, files::save(part.channels[i], own, buf))
             }
-            Call::Nothing => part.answer(DONE),
         }
     }
 }

@@ -7,9 +7,9 @@ mod calls;
 mod poke;
 mod sums;
 
-use calls::{BYTES, Call};
+use calls::{BYTES, Call, NoCall};
 use part::{Part, PartStepped};
-use rules::Device;
+use rules::{DONE, Device};
 use std::io::Read;
 use sums::Sum;
 
@@ -44,13 +44,16 @@ fn report(out: &impl Print, number: u64, r: &PartStepped, buf: &[u8], mem: &[u8;
 }
 
 // The next call and its buffer, if a whole one is left and there is room for its buffer.
-fn read_call<'a>(input: &mut impl Read, buf: &'a mut [u8; ROOM]) -> Option<(Call, &'a mut [u8])> {
+fn read_call<'a>(
+    input: &mut impl Read,
+    buf: &'a mut [u8; ROOM],
+) -> Option<(Result<Call, NoCall>, &'a mut [u8])> {
     let mut header = [0; 8];
     input.read_exact(&mut header).ok()?;
     let [what, channel, a, b, c, d, low, high] = header;
     let buf = buf.get_mut(..u16::from_le_bytes([low, high]) as usize)?;
     input.read_exact(buf).ok()?;
-    Some((Call::from([what, channel, a, b, c, d]), buf))
+    Some((Call::try_from([what, channel, a, b, c, d]), buf))
 }
 
 // A proved loop has to end, and nothing says that the input does: the number of calls has a largest value, which no run reaches.
@@ -63,7 +66,10 @@ fn main(rt: HostRuntime) {
         let Some((call, buf)) = read_call(&mut input, &mut room) else {
             return;
         };
-        let r = call.perform(part, buf, &mut mem);
+        let r = match call {
+            Ok(call) => call.perform(part, buf, &mut mem),
+            Err(_) => part.answer(DONE),
+        };
         report(&rt, number, &r, buf, &mem);
         part = r.part;
     }

@@ -4,8 +4,7 @@ ghost use Rattle.std.specs.Prelude.{◌<◌};
 use channel::Channel;
 use head::{Head, Settings};
 use part::Part;
-use rules::{Kind, Phase, Ptrs, Regs, Walk};
-use steps::Act;
+use rules::{Action, Kind, Phase, Ptrs, Regs, Walk};
 
 const MODULUS: u64 = 4294967291;
 
@@ -61,9 +60,9 @@ impl Sum {
 
     // ---- the state
 
-    pub(crate) fn actions(&mut self, acts: [Act; 3]) {
-        for act in acts {
-            let tag = rules::action_tag(act.action);
+    pub(crate) fn actions(&mut self, actions: [Action; 3]) {
+        for action in actions {
+            let tag = rules::action_tag(action);
             self.bytes(&[tag.kind, tag.value]);
         }
     }

@@ -1,6 +1,5 @@
 -- Facts that functions hand to each other, beside what they return. Nobody has to believe them: each is proved where it is promised.
-use Rattle.std.specs.Prelude.{ℕ, List, Result, ◌≡◌, ltb}
-use Rattle.laws.specs.Pick.{when◌then◌else◌}
+use Rattle.std.specs.Prelude.{ℕ, List, Result, ◌≡◌, ltb, if◌then◌else◌}
 use Rattle.rules.specs.declared.numbers.Refusal.{Refusal}
 use Rattle.rules.specs.Numbers.{done, nowhere, out_of_range, number_of}
 use Rattle.part.specs.declared.state.Part.{Part}
@@ -16,4 +15,4 @@ pub record Did (d : Deed) (o : Own) (r : Result (Unit {0}) Refusal) (q : Own) (l
 
 -- the number that refuses a call on the part before the work, as `work_done` and `work_reply` have it; or 0
 unfoldable pub call_number : Part → ℕ → ℕ → ℕ
-call_number p len c = when accepts p len then (when ltb 2 c then nowhere else done) else out_of_range
+call_number p len c = if accepts p len then (if ltb 2 c then nowhere else done) else out_of_range

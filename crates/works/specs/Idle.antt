@@ -1,6 +1,5 @@
 -- Works that only an Idle channel does: a request supplies a number, a change and what is left in the buffer. And the call of a work on a single channel, and what it gives back on the part.
-use Rattle.std.specs.Prelude.{ℕ, false, List, ◌≡◌, eqb, length}
-use Rattle.laws.specs.Pick.{when◌then◌else◌}
+use Rattle.std.specs.Prelude.{ℕ, false, List, ◌≡◌, eqb, length, if◌then◌else◌}
 use Rattle.rules.specs.Numbers.{done, locked}
 use Rattle.rules.specs.Registers.{active_of}
 use Rattle.rules.specs.declared.wires.Action.TheVariants.{Nothing}
@@ -35,15 +34,15 @@ pub record Deed : Type 0 where
 
 -- 3 if active, and then its own number
 unfoldable pub deed_number : Deed → Own → ℕ
-deed_number d o = when active_of o.channel.head.walk.phase then locked else d.number o
+deed_number d o = if active_of o.channel.head.walk.phase then locked else d.number o
 
 -- at a refusal all memory stays, and the record
 unfoldable pub deed_after : Deed → Own → Own
-deed_after d o = when eqb (deed_number d o) done then d.change o else o
+deed_after d o = if eqb (deed_number d o) done then d.change o else o
 
 -- and the buffer
 unfoldable pub deed_out : Deed → Own → List ℕ
-deed_out d o = when eqb (deed_number d o) done then d.hands o else d.lent
+deed_out d o = if eqb (deed_number d o) done then d.hands o else d.lent
 
 -- an answer with a number and nothing else
 abbrev pub numbered : ℕ → Answer
@@ -71,7 +70,7 @@ unfoldable pub alone_by : Work → Channel → List ℕ → Alone
 alone_by w c m =
     let o = own_by c m in
     let n = range_number (length m) (in_range c) in
-    when eqb n done then alone_given (w.after o) (w.gives o) else alone_given o (record { answer = numbered n; out = w.lent })
+    if eqb n done then alone_given (w.after o) (w.gives o) else alone_given o (record { answer = numbered n; out = w.lent })
 
 -- ---- what the call of a work that is no write leaves of the part: what is every other channel's own, CTRLINTMSK, and CTRLPRESET's A5h
 pub record Spares (c : ℕ) (s t : State) : Type 0 where

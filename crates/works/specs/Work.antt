@@ -1,7 +1,6 @@
 -- A work is a step of one channel, whatever it is, with what a buffer of its own holds. It sees what is the channel's own and nothing else. This page
 -- says what a work is, and what its call does to the part.
-use Rattle.std.specs.Prelude.{ℕ, Bool, List, ◌≡◌, ltb, length}
-use Rattle.laws.specs.Pick.{when◌then◌else◌}
+use Rattle.std.specs.Prelude.{ℕ, Bool, List, ◌≡◌, ltb, length, if◌then◌else◌}
 use Rattle.interrupt.specs.Interrupt.{be_after}
 use Rattle.steps.specs.declared.answer.PartAnswer.{PartAnswer}
 use Rattle.head.specs.declared.state.Answer.{Answer}
@@ -53,7 +52,7 @@ own_of s c = record { channel = chan s.part c; bytes = window c s.memory }
 
 -- the part where a work of channel c finds it: a write has forgotten every other key
 abbrev pub left_for : Part → ℕ → Bool → Part
-left_for p c writes = when writes then forgotten p c else p
+left_for p c writes = if writes then forgotten p c else p
 
 -- the state with o as channel c's own, after an answer of this number
 abbrev pub own_put : State → ℕ → Own → ℕ → Bool → State
@@ -86,10 +85,10 @@ refusal s w n = record { answer = (refused_part s.part n).answer; out = w.lent }
 
 -- no. 9, then no. 1 for a channel above 2, then the work; a refusal leaves the state and the buffer
 unfoldable pub work_done : State → ℕ → Work → State
-work_done s c w = when accepts s.part (length s.memory) then (when ltb c 3 then work_after s c w else s) else s
+work_done s c w = if accepts s.part (length s.memory) then (if ltb c 3 then work_after s c w else s) else s
 
 unfoldable pub work_reply : State → ℕ → Work → Reply
 work_reply s c w =
-    when accepts s.part (length s.memory)
-    then (when ltb c 3 then reply_by c (work_gives s c w) else refusal s w 1)
+    if accepts s.part (length s.memory)
+    then (if ltb c 3 then reply_by c (work_gives s c w) else refusal s w 1)
     else refusal s w 9

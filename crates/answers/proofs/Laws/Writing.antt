@@ -13,7 +13,6 @@ use Rattle.std.proofs.lemmas.Fmt.{decimal_by_steps}
 use lib.ListN.{length, length-append}
 use lib.Seq.{drop-drop}
 use borrow.Author.Tests.{lt-ltb, le-ltb}
-use Rattle.laws.specs.Pick.{when◌then◌else◌}
 use Rattle.laws.specs.Sets.{sets_append}
 use Rattle.laws.specs.Cases.{flag_true, flag_false, false_not_true}
 use Rattle.rules.specs.declared.wires.Action.{Action}
@@ -25,11 +24,11 @@ put_none l at = record { place = omega arith; bytes = refl }
 
 -- a text that a test asks for
 pub put-yes : {l m t : List ℕ} {at r : ℕ} (b : Bool) → Put l at t r m → b ≡ true → Put l at (text_if b t) r m
-unfolding text_if when◌then◌else◌
+unfolding text_if
 put-yes b p e = rw e p
 
 pub put_no : (l t : List ℕ) (at : ℕ) (b : Bool) → b ≡ false → Put l at (text_if b t) at l
-unfolding text_if when◌then◌else◌
+unfolding text_if
 put_no l t at b e = rw e (put_none l at)
 
 -- a text copied into its part of the output
@@ -51,7 +50,7 @@ pub ruleset puts = (put-yes, put_no, flag_true, flag_false, rules)
 -- ---- decimal digits
 -- where m + 1 digits are enough, one more changes nothing
 digits_enough : (m x : ℕ) → x < 10 ^ suc m → digits_of (suc m) x ≡ digits_of (suc (suc m)) x
-unfolding digits_of when◌then◌else◌
+unfolding digits_of
 digits_enough zero x h = rw (lt-ltb x 10 h)
 digits_enough (suc m) x h =
     let h' : x < 10 ^ suc m * 10 = rw (pow-suc 10 (suc m)) at h in
@@ -59,13 +58,13 @@ digits_enough (suc m) x h =
 
 -- the last digit stands behind those of a tenth
 digits_last : (x : ℕ) → 10 ≤ x → x < 18446744073709551616 → digits_of 20 x ≡ digits_of 20 (x / 10) ++ ((48 + x % 10) ∷ [])
-unfolding digits_of when◌then◌else◌
+unfolding digits_of
 digits_last x h k =
     let e : digits_of 19 (x / 10) ≡ digits_of 20 (x / 10) = digits_enough 18 (x / 10) (omega arith) in
     rw (← e, le-ltb x 10 h)
 
 digit_alone : (x : ℕ) → x < 10 → digits_of 20 x ≡ (48 + x) ∷ []
-unfolding digits_of when◌then◌else◌
+unfolding digits_of
 digit_alone x h = let e : x % 10 ≡ x = omega arith in rw (lt-ltb x 10 h, e)
 
 -- they are those that std prints
@@ -78,16 +77,13 @@ decimal_is x h = decimal_by_steps (λ n ds. n < 18446744073709551616 → digits_
 
 -- ---- no action
 or_none : (a b : Bool) → or_of a b ≡ false → (a ≡ false) × (b ≡ false)
-unfolding when◌then◌else◌
 or_none true b e = absurd (omega (arith, false_not_true (sym e)))
 or_none false b e = (refl, e)
 
 pub or_yes : (r a b : Bool) → a ≡ true → r ≡ true → r ≡ or_of a b
-unfolding when◌then◌else◌
 or_yes r a b e f = f ∙ rw e
 
 pub or_no : (r a b : Bool) → a ≡ false → r ≡ b → r ≡ or_of a b
-unfolding when◌then◌else◌
 or_no r a b e f = f ∙ rw e
 
 -- the actions of the channels that act, the first without a comma
@@ -100,7 +96,7 @@ put_three {l} {m} {n} {o} {at} {i} {j} {r} a b c one two e f g p q w =
     put_then p (put_then second (put_then third dash))
 
 pub put_dash : {l m : List ℕ} {at r : ℕ} (a b c : Action) → Put l at (45 ∷ []) r m → or_of (or_of (busy_of a) (busy_of b)) (busy_of c) ≡ false → Put l at (by_commas a b c) r m
-unfolding action_of text_if when◌then◌else◌
+unfolding action_of text_if
 put_dash a b c p e =
     let two = or_none (or_of (busy_of a) (busy_of b)) (busy_of c) e in
     let one = or_none (busy_of a) (busy_of b) two.0 in

@@ -18,7 +18,7 @@ returns-then-busy c =
       | then-two w ↦ or_yes _ _ _ w.if-two.true (w.value-is ∙ w.if-two.true)
       | else-two w ↦ or_no _ _ _ w.if-two.false (w.value-is ∙ w.busy.ensures)
     ] in (
-      put_three _ _ _ _ _ c.busy-one.ensures two (sym three ∙ c.if-busy.true) c.put_action-p.ensures.0 c.put_action-q.ensures.0 c.put_action.ensures.0,
+      put_three _ _ _ _ _ c.busy-one.ensures two (sym three ∙ c.if-busy.true) c.put_action-at.ensures.0 c.put_action-at-then-busy.ensures.0 c.put_action.ensures.0,
       search rules,
     )
 

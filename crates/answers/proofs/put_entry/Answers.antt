@@ -4,4 +4,4 @@ use borrow.Author.Rules.{rules}
 use Rattle.answers.proofs.put_entry.Goals as goal
 
 pub returns : goal.returns
-returns c = (rw (← c.spell-text.ensures.0) (put_then c.put_if-p.ensures.0 (put_then c.put-q.ensures c.put.ensures)), search rules)
+returns c = (rw (← c.spell-text.ensures.0) (put_then c.put_if-at.ensures.0 (put_then c.put-at.ensures c.put.ensures)), search rules)

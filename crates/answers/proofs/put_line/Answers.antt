@@ -7,8 +7,8 @@ use Rattle.answers.proofs.put_line.Goals as goal
 pub returns : goal.returns
 unfolding answer_line
 returns c = (
-  put_then c.put_decimal-p.ensures.0
-      (put_then c.put-q.ensures
-      (put_then c.put_decimal-s.ensures.0 (put_then c.put_middle-t.ensures (put_then c.put_actions-u.ensures.0 c.put.ensures)))),
-  omega (arith, c.put_decimal-p.ensures.1, c.put-q.ensures.place, c.put_decimal-s.ensures.1, c.put_middle-t.ensures.place, c.put_actions-u.ensures.1, c.put.ensures.place),
+  put_then c.put_decimal-at.ensures.0
+      (put_then c.put-at.ensures
+      (put_then c.put_decimal-at-2.ensures.0 (put_then c.put_middle-at.ensures (put_then c.put_actions-at.ensures.0 c.put.ensures)))),
+  omega (arith, c.put_decimal-at.ensures.1, c.put-at.ensures.place, c.put_decimal-at-2.ensures.1, c.put_middle-at.ensures.place, c.put_actions-at.ensures.1, c.put.ensures.place),
 )

@@ -6,7 +6,6 @@ use Rattle.std.proofs.Math.Path.{subst}
 use Rattle.std.proofs.lemmas.List.{length-replicate}
 use Rattle.std.proofs.lemmas.List.Edits.{sets}
 use Rattle.laws.specs.Cases.{pick_holds}
-use Rattle.laws.specs.Pick.{when◌then◌else◌}
 use Rattle.part.specs.declared.state.Part.{Part}
 use Rattle.rules.specs.declared.parts.Device.TheVariants.{Pca9663}
 use Rattle.part.specs.State.{fresh_part, wiped}
@@ -111,7 +110,7 @@ silent_closed s m r o e h w =
 
 -- ---- the header
 pub header-put : (o : List ℕ) (at : ℕ) (o' : List ℕ) → answer_room ≤ length o → Put o 0 (text_if (roomy (length o) 0) header) at o' → (at ≤ length o') × (take at o' ≡ header)
-unfolding text_if when◌then◌else◌
+unfolding text_if
 header-put o at o' h w =
     let e = le-leb answer_room (length o) h in
     let new : Put o 0 header at o' = rw e at w in

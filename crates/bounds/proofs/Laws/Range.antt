@@ -1,10 +1,9 @@
 -- What the range's clauses say.
-use Rattle.std.specs.Prelude.{Bool, true, false, not, List, ◌≡◌, refl, ℕ, zero, suc, ◌+◌, ◌-◌, ◌/◌, ◌%◌, ◌<◌, ◌≤◌, ◌&&◌, get_or, set, drop, length, eqb}
+use Rattle.std.specs.Prelude.{Bool, true, false, not, List, ◌≡◌, refl, ℕ, zero, suc, ◌+◌, ◌-◌, ◌/◌, ◌%◌, ◌<◌, ◌≤◌, ◌&&◌, get_or, set, drop, length, eqb, if◌then◌else◌}
 use Rattle.std.proofs.Common.{sym, ◌∙◌, ap, ⊎_elim, arith, eq-or-lt_of_le, rules, add-one, drop-cons, get_or-set_other}
 use Rattle.std.specs.List.{list_all}
 use Rattle.std.proofs.Math.ListN.{drop_of_length-le}
 use borrow.Author.Tests.{eq-eqb, lt-ltb, le-ltb, ltb-true, ltb-false, leb-true, eqb-true, not-true}
-use Rattle.laws.specs.Pick.{when◌then◌else◌}
 use Rattle.laws.specs.Cases.{past, both, on, with, false_not_true}
 use Rattle.rules.specs.declared.parts.Device.{Device}
 use Rattle.rules.specs.declared.parts.Device.TheVariants.{Pca9663, Pcu9669}
@@ -72,13 +71,13 @@ pub ruleset ranges = (standing_below, rules)
 
 -- ---- clear_after: each entry behind i is 0
 clear_from_all : (l : List ℕ) (i left : ℕ) → left ≡ length l - i → list_all (λ n. eqb n 0) (drop i l) ≡ clear_from l i left
-unfolding clear_from when◌then◌else◌
+unfolding clear_from
 clear_from_all l i zero e = let h : length l ≤ i = omega (arith, e) in rw (drop_of_length-le l h)
 clear_from_all l i (suc left) e =
     let h : i < length l = omega (arith, e) in
     rw (drop-cons l i 0 h, add-one i) (go (eqb (get_or l i 0) 0) (clear_from_all l (suc i) left (omega (arith, e))))
   where
-    go : (b : Bool) {x y : Bool} → x ≡ y → (b && x) ≡ (when b then y else false)
+    go : (b : Bool) {x y : Bool} → x ≡ y → (b && x) ≡ (if b then y else false)
     go true h = h
     go false h = refl
 
@@ -175,7 +174,7 @@ stands_counted kind sla lens counts n v s = record {
 
 -- a UFm channel receives nothing: a read is skipped there
 pub no_receiving : (n : ℕ) (sla lens counts : List ℕ) → get_or lens 0 0 ≤ 64 → frame_in Ufm (Receiving n) sla lens counts ≡ true → ⊥
-unfolding frame_in frame_at standing counts_in counted_in skipped_of read_skipped when◌then◌else◌
+unfolding frame_in frame_at standing counts_in counted_in skipped_of read_skipped
 no_receiving n sla lens counts few e =
     let s = (stands_of Ufm (Receiving n) sla lens counts n few e).sent in
     let r = (both (reads_of (get_or sla n 0)) _ (frame-counted Ufm (Receiving n) sla lens counts n e)).0 in
@@ -183,7 +182,7 @@ no_receiving n sla lens counts few e =
 
 -- ---- the kinds of the channels are those of the part that channel 1 names, and each part's are so
 pub kinds_of : (a b c : Kind) → kinds_in a b c ≡ true → (a ≡ Fm) × (b ≡ other_kind (device_by b)) × (c ≡ other_kind (device_by b))
-unfolding kinds_in when◌then◌else◌
+unfolding kinds_in
 kinds_of Fm Fm Fm e = (refl, refl, refl)
 kinds_of Fm Fm Ufm e = absurd (let z = false_not_true e in omega (arith, z))
 kinds_of Fm Ufm Fm e = absurd (let z = false_not_true e in omega (arith, z))
@@ -191,6 +190,6 @@ kinds_of Fm Ufm Ufm e = (refl, refl, refl)
 kinds_of Ufm b c e = absurd (let z = false_not_true e in omega (arith, z))
 
 pub of_kinds : (d : Device) → kinds_in Fm (other_kind d) (other_kind d) ≡ true
-unfolding kinds_in when◌then◌else◌
+unfolding kinds_in
 of_kinds Pca9663 = refl
 of_kinds Pcu9669 = refl

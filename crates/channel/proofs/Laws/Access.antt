@@ -2,11 +2,11 @@
 use Rattle.std.specs.Prelude.{length, Option, Some, Result, Ok, Err}
 use mathlib.Core.List.{List}
 use mathlib.Core.Bool.{Bool, true, false}
-use mathlib.Core.Path.{◌≡◌, refl, sym, ◌∙◌}
+use mathlib.Core.Path.{◌≡◌, sym, ◌∙◌}
 use Prim.Native.Nat.{ℕ, ◌<◌, ◌≤◌}
 use native.Mathlib.Omega.{arith}
 use borrow.Author.Rules.{rules}
-use borrow.Author.Tests.{eq-eqb, ne_eqb}
+use borrow.Author.Tests.{ne_eqb}
 use Rattle.laws.specs.Cases.{pick_true, pick-false}
 use Rattle.rules.specs.declared.registers.Register.{Register}
 use Rattle.rules.specs.declared.state.Ptrs.{Ptrs}
@@ -87,11 +87,11 @@ module _ (c : Channel) (m : List ℕ) (d x : Served) (r : Result (Unit {0}) Refu
   pub guarded_no : (e : Refusal) → r ≡ Err e → x ≡ leaving m (on c (refused c.head (refusal_number e))) → x ≡ guarded k c m d
   unfolding guarded
   guarded_no e q p = let n : refusal_number e ≡ k = rw q at says in let h = refusal_positive e in
-      rw (← n) (pick-false _ _ _ _ (ne_eqb _ 0 (λ z. omega (arith, h, z))) p)
+      rw (← n, ne_eqb (refusal_number e) 0 (λ z. omega (arith, h, z))) p
 
   pub guarded-yes : (t : Unit {0}) → r ≡ Ok t → x ≡ d → x ≡ guarded k c m d
   unfolding guarded
-  guarded-yes t q p = rw (← says, q) (pick_true _ _ _ _ (eq-eqb 0 0 refl) p)
+  guarded-yes t q p = rw (← says, q) p
 
 -- ---- a write at a register of the channel, from whether it resets, its key and its number
 module _ (c : Channel) (m : List ℕ) (place : Option Register) (reg : Register) (v : ℕ) (p b : Bool) (here : place ≡ Some reg)

@@ -1,11 +1,10 @@
 -- No frame, event or trigger edge leads out of range.
-use Rattle.std.specs.Prelude.{Bool, true, false, not, List, [], ◌∷◌, ◌≡◌, ℕ, zero, suc, ◌+◌, ◌<◌, ◌≤◌, eqb, ltb, length, get_or, set}
+use Rattle.std.specs.Prelude.{Bool, true, false, not, List, [], ◌∷◌, ◌≡◌, ℕ, zero, suc, ◌+◌, ◌<◌, ◌≤◌, eqb, ltb, length, get_or, set, if◌then◌else◌}
 use Rattle.std.proofs.Math.Path.{refl, sym, subst}
 use Rattle.std.proofs.Common.{◌∙◌, arith}
 use borrow.Author.Tests.{lt-ltb, eq-eqb, ltb-true, eqb-true, eqb-false}
 use Rattle.std.proofs.Math.ListN.{length-set}
 use Rattle.std.proofs.lemmas.List.{get_or-replicate}
-use Rattle.laws.specs.Pick.{when◌then◌else◌}
 use Rattle.laws.specs.Cases.{pick_holds, past, both, on, with, false_not_true}
 use Rattle.rules.specs.declared.parts.Kind.{Kind}
 use Rattle.rules.specs.declared.parts.Kind.TheVariants.{Fm, Ufm}
@@ -28,11 +27,12 @@ use Rattle.sequence.specs.declared.wires.Move.TheVariants.{Halt, Send}
 use Rattle.sequence.specs.declared.wires.Next.{Next}
 use Rattle.sequence.specs.declared.wires.Next.TheVariants.{Cut, More, Over}
 use Rattle.sequence.specs.declared.wires.Tail.{Tail}
+use Rattle.sequence.specs.declared.wires.Tail.TheVariants.{Plain}
 use Rattle.sequence.specs.declared.wires.Beginning.{Beginning}
 use Rattle.sequence.specs.declared.wires.Beginning.TheVariants.{Empty, Unfit, Fit}
 use Rattle.sequence.specs.declared.wires.Ending.{Ending}
 use Rattle.sequence.specs.declared.wires.Ending.TheVariants.{Fe, Error, Sd, Wait}
-use Rattle.sequence.specs.Wires.{beginning_of, reach_of, move_of, next_of, rest_of, ending_of, beat_of, turn_of, matches_of, edge_beat}
+use Rattle.sequence.specs.Wires.{masked_of, beginning_of, reach_of, move_of, next_of, rest_of, ending_of, beat_of, turn_of, matches_of, edge_beat}
 use Rattle.sequence.proofs.Laws.Meeting.{Meeting, meeting}
 use Rattle.sequence.proofs.Laws.Meeting.Meeting.{unawaited as unawaited', ack_address_lem as ack_address', ack_sending_lem as ack_sending', receive as receive'}
 use Rattle.sequence.proofs.Laws.Meeting.Meeting.{nack_address as nack_address', nack_sending as nack_sending', begin as begin', late as late', end as end', sda as sda', scl as scl', ill as ill'}
@@ -80,25 +80,24 @@ Held c = (pointers_in c.head.ptrs ≡ true) × (registers_in (count_of c) c.head
 abbrev pub Ends : Channel → ℕ → Type 0
 Ends c n = ended_in Waiting c.head.regs.te (framecnt_of c.head) n ≡ true
 
-either : (b : Bool) → (when b then b else true) ≡ true
-unfolding when◌then◌else◌
+either : (b : Bool) → (if b then b else true) ≡ true
 either true = refl
 either false = refl
 
 pub zero-ends : (te : Bool) (n : ℕ) → ended_in Waiting te n 0 ≡ true
-unfolding ended_in counting_of when◌then◌else◌
+unfolding ended_in counting_of
 zero-ends true n = refl
 zero-ends false n = either (ltb 0 n)
 
 more-ends : (n k : ℕ) → ltb (k + 1) n ≡ true → ended_in Waiting false n (k + 1) ≡ true
-unfolding ended_in counting_of when◌then◌else◌
+unfolding ended_in counting_of
 more-ends n k e =
     let h = ltb-true (k + 1) n e in
     let z : ltb 0 n ≡ true = lt-ltb 0 n (omega arith) in rw (z, e)
 
 -- ---- Idle and Waiting
 idle_walk : (te : Bool) (n : ℕ) → walk_in idle te n ≡ true
-unfolding walk_in ended_in counting_of recorded_in blank_of when◌then◌else◌
+unfolding walk_in ended_in counting_of recorded_in blank_of
 idle_walk te n = refl
 
 idled_in : (c : Channel) → Held c → In (with_head c (idled c.head))
@@ -106,7 +105,7 @@ unfolding frame_in
 idled_in c h = (h.0, h.1, idle_walk _ _, refl)
 
 pub waited_in : (c : Channel) (n : ℕ) → Held c → Ends c n → In (with_head c (with_walk c.head (waiting n)))
-unfolding frame_in walk_in recorded_in blank_of when◌then◌else◌
+unfolding frame_in walk_in recorded_in blank_of
 waited_in c n h e = (h.0, h.1, with _ _ e refl, refl)
 
 -- ---- the frame's end
@@ -117,7 +116,7 @@ Waits te n Sd = Unit {0}
 Waits te n (Wait k) = ended_in Waiting te n k ≡ true
 
 rest_waits : (te : Bool) (n k : ℕ) → Waits te n (rest_of te n k)
-unfolding Waits rest_of when◌then◌else◌
+unfolding Waits rest_of
 rest_waits true n k = zero-ends true n
 rest_waits false n k =
     pick_holds (Waits false n) (eqb n 0) (λ _. zero-ends false n)
@@ -184,14 +183,14 @@ found c from to few fits clear e f t =
 walk_sends : (c : Channel) (from : ℕ) → count_of c ≤ 64 → fitting c.tranconfig ≡ true
     → ((k : ℕ) → from ≤ k → k < 64 → get_or c.bytecount k 0 ≡ 0)
     → Sends c (move_of false (first_sent (kind_of c.head) c.slatable c.tranconfig from (count_of c)) (count_of c))
-unfolding move_of when◌then◌else◌ Sends
+unfolding move_of Sends
 walk_sends c from few fits clear =
     let to = first_sent (kind_of c.head) c.slatable c.tranconfig from (count_of c) in
     pick_holds (Sends c) (ltb to (count_of c)) (λ t. found c from to few fits clear refl (first_from _ _ _ _ _) t) (λ _. tt)
 
 next_sends : (c : Channel) (n : ℕ) (halt : Bool) → Stands (kind_of c.head) c.slatable c.tranconfig c.bytecount n
     → Sends c (move_of halt (reach_of (kind_of c.head) halt n c.slatable c.tranconfig) (count_of c))
-unfolding move_of reach_of when◌then◌else◌ Sends
+unfolding move_of reach_of Sends
 next_sends c n true s = tt
 next_sends c n false s = walk_sends c (n + 1) s.few s.fits (λ k h g. s.clear k (omega arith) g)
 
@@ -266,7 +265,7 @@ send_on_lem c m n k Over r w s = finished_in c n _ r
 
 -- a read that is not skipped has a length
 read_length : (kind : Kind) (sla len : ℕ) → reads_of sla ≡ true → skipped_of kind sla len ≡ false → 0 < len
-unfolding skipped_of read_skipped when◌then◌else◌
+unfolding skipped_of read_skipped
 read_length Fm sla len r e = let h = eqb-false len 0 (rw r at e) in omega arith
 read_length Ufm sla len r e = absurd (let z = false_not_true (sym (rw r at e)) in omega (arith, z))
 
@@ -316,7 +315,7 @@ nacked_in : (c : Channel) (n v : ℕ) → RunsAt c n → Good (nacked c n v)
 unfolding nacked failed_by
 nacked_in c n v r =
     let d = with_head (resolved c n v) (noted c.head (reads_of (get_or c.slatable n 0))) in
-    pick_holds Good _ (λ _. onward_in d n _ r) (λ _. failed_in d r.0)
+    pick_holds Good (masked_of c.head.regs.intmsk (reads_of (get_or c.slatable n 0))) (λ _. onward_in d n Plain r) (λ _. failed_in d r.0)
 
 -- ---- an event in the phase that it meets
 module _ (c : Channel) (m : List ℕ) (h : In c) where
@@ -386,9 +385,9 @@ module _ (c : Channel) (m : List ℕ) (h : In c) where
   waiting_runs : In-phase Waiting → Runs c
   unfolding recorded_in blank_of
   waiting_runs i =
-      let a = (past _ _ i.2).1 in
-      let b = (past _ _ a).1 in
-      let e = (past _ _ (past _ _ b).1).0 in ((h.0, h.1), rw e, i.1)
+      let a = (past c.head.walk.sto _ i.2).1 in
+      let b = (past c.head.walk.seq _ a).1 in
+      let e = (past c.head.walk.error true (past c.head.walk.fe _ b).1).0 in ((h.0, h.1), rw e, i.1)
 
   GoodBeat : Beat → Type 0
   GoodBeat b = Good (beaten c b)

@@ -4,7 +4,6 @@ use mathlib.Core.List.{List, [], ◌∷◌}
 use Rattle.std.proofs.Math.Path.{refl, sym}
 use Rattle.std.proofs.Common.{◌∙◌, arith, eqb-true, eq-eqb, ltb-true, ltb-false, length-set}
 use Rattle.std.proofs.lemmas.List.{length-replicate}
-use Rattle.laws.specs.Pick.{when◌then◌else◌}
 use Rattle.laws.specs.Cases.{pick_holds, past, both, with, false_not_true, accepted}
 use Rattle.rules.specs.declared.parts.Kind.{Kind}
 use Rattle.rules.specs.declared.parts.Straps.{Straps}
@@ -59,7 +58,7 @@ open_frame k Waiting at s l b e = refl
 
 -- in Idle the number of ended frames is 0, whatever TE and FRAMECNT are
 idle_ended : (p : Phase) (te te' : Bool) (n n' k : ℕ) → active_of p ≡ false → ended_in p te n k ≡ true → ended_in p te' n' k ≡ true
-unfolding ended_in counting_of when◌then◌else◌
+unfolding ended_in counting_of
 idle_ended Idle te te' n n' k a e = e
 idle_ended (Address x) te te' n n' k a e = absurd (omega (arith, false_not_true (sym a)))
 idle_ended (Sending x) te te' n n' k a e = absurd (omega (arith, false_not_true (sym a)))
@@ -83,7 +82,7 @@ entry_0 (x ∷ l) zero v h k = k refl
 entry_0 (x ∷ l) (suc i) v h k = h
 
 not_many : (at v : ℕ) → too_many at v ≡ false → at ≡ 0 → v ≤ 64
-unfolding too_many when◌then◌else◌
+unfolding too_many
 not_many at v e q = ltb-false 64 v (rw (eq-eqb at 0 q) at e)
 
 -- ---- the pointers after a write to CONTROL
@@ -139,16 +138,16 @@ asked_in_lem c Seq h r = r
 asked_in_lem c Leave h r = left_in c (h.0, h.1)
 
 idle_none : (te : Bool) (n k : ℕ) → ended_in Idle te n k ≡ true → k ≡ 0
-unfolding ended_in counting_of when◌then◌else◌
+unfolding ended_in counting_of
 idle_none te n k e = eqb-true k 0 e
 
 module _ (c : Channel) (h : In c) where
   idle_runs : In-phase c [] h Idle → Runs c
   unfolding recorded_in blank_of
   idle_runs i =
-      let a = (past _ _ i.2).1 in
-      let b = (past _ _ a).1 in
-      let e = (past _ _ (past _ _ b).1).0 in
+      let a = (past c.head.walk.sto _ i.2).1 in
+      let b = (past c.head.walk.seq _ a).1 in
+      let e = (past c.head.walk.error true (past c.head.walk.fe _ b).1).0 in
       let z : c.head.walk.ended ≡ 0 = idle_none _ _ _ i.1 in ((h.0, h.1), rw e, rw z (zero-ends _ _))
 
   start_asks : (sta te : Bool) → Runs c → Asks c (start_asked sta te)
@@ -267,7 +266,7 @@ unfolding guarded
 guarded_in n c m d h f = pick_holds (Fine m) (eqb n done) (λ t. f (eqb-true n done t)) (λ _. (h, refl))
 
 fresh_in : (x : Straps) → In (fresh x)
-unfolding pointers_in registers_in walk_in ended_in counting_of recorded_in blank_of frame_in when◌then◌else◌
+unfolding pointers_in registers_in walk_in ended_in counting_of recorded_in blank_of frame_in
 fresh_in x = (refl, refl, refl, refl)
 
 pub zeros-length : length zeros ≡ buffer_size

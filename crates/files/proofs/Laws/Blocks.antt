@@ -1,19 +1,17 @@
 -- The blocks of a file, as slices that start in its middle; and the file that is put together of a channel's.
-use Prim.Native.Nat.{ℕ, ◌+◌, ◌-◌, ◌*◌, ◌<◌, ◌≤◌}
+use Prim.Native.Nat.{ℕ, ◌+◌, ◌-◌, ◌*◌, ◌≤◌}
 use Rattle.std.specs.Prelude.{Result}
 use mathlib.Core.List.{List, [], ◌∷◌, ◌++◌, append_assoc, append-nil}
 use mathlib.Core.Path.{◌≡◌, refl, sym, ◌∙◌, ap}
 use native.Mathlib.Omega.{arith}
-use borrow.Author.Tests.{le-leb, lt-leb, le-ltb, lt-ltb}
+use borrow.Author.Tests.{le-ltb}
 use lib.ListN.{length, get_or, set, take, drop, replicate, length-drop, drop_of_length-le}
 use lib.Seq.{length-take-le, drop-drop}
-use Rattle.laws.specs.Pick.{when◌then◌else◌}
 use Rattle.rules.specs.Numbers.{buffer_size}
-use Rattle.rules.specs.Tables.{start_of, fitting}
 use Rattle.channel.specs.State.{zeros}
 use Rattle.files.specs.declared.format.Fault.{Fault}
 use Rattle.files.specs.File.{header_of, file_of, total, count_in, body_of, body_fault, fault_of, over}
-use Rattle.files.specs.Work.{loaded_sla, loaded_conf, loaded_bytes, room_number}
+use Rattle.files.specs.Work.{loaded_sla, loaded_conf, loaded_bytes}
 use Rattle.files.specs.Laws.File.{header-length}
 use Rattle.files.proofs.Laws.Moves.{rest_all}
 
@@ -33,7 +31,7 @@ first_count f n h = rw (body_is f) (sym (length-take-le n (body_of f) (let d = l
 
 pub fault_behind : (f : List ℕ) (n s : ℕ) (r : Result (Unit {0}) Fault) → 12 ≤ length f → n ≡ count_in f → n ≤ 64 → 12 + 2 * n ≤ length f
     → s ≡ total (take ((12 + 2 * n) - (12 + n)) (drop (12 + n) f)) → r ≡ body_fault f n s → r ≡ fault_of f
-unfolding fault_of when◌then◌else◌
+unfolding fault_of
 fault_behind f n s r h e few long sum b =
     let k : (12 + 2 * n) - (12 + n) ≡ n = omega arith in
     let t : s ≡ total (take n (drop n (body_of f))) = sum ∙ (rw (k, drop-drop n 12 f) refl) in
@@ -78,17 +76,3 @@ file_put h a lens d o r n s e p q k =
     let t : (h ++ a) ++ (take ((n + 1) - 1) (drop 1 lens) ++ d) ≡ header_of (length a) (length d) ++ (a ++ (take n (drop 1 lens) ++ d)) =
     rw (m, ← p, ← q, e) (append_assoc (header_of n s) a (take n (drop 1 lens) ++ d)) in
     k ∙ ap (λ (x : List ℕ). over x o) t
-
--- ---- whether there is room
-module _ (lens : List ℕ) (room n s : ℕ) (p : n ≡ get_or lens 0 0) (q : s ≡ start_of lens n) where
-  pub room_short : s ≤ buffer_size → room < (12 + 2 * n) + s → 11 ≡ room_number lens room
-  unfolding room_number fitting when◌then◌else◌
-  room_short h k = rw (← p, ← q, le-leb s buffer_size h, lt-ltb room ((12 + 2 * n) + s) k)
-
-  pub room_done : s ≤ buffer_size → (12 + 2 * n) + s ≤ room → 0 ≡ room_number lens room
-  unfolding room_number fitting when◌then◌else◌
-  room_done h k = rw (← p, ← q, le-leb s buffer_size h, le-ltb room ((12 + 2 * n) + s) k)
-
-  pub room_never : buffer_size < s → 11 ≡ room_number lens room
-  unfolding room_number fitting when◌then◌else◌
-  room_never h = rw (← p, ← q, lt-leb s buffer_size h)

@@ -7,10 +7,10 @@ use mathlib.Core.Path.{◌≡◌, refl, ◌∙◌, subst}
 use native.Mathlib.Omega.{arith}
 use borrow.Author.Tests.{ne_eqb}
 use lib.ListN.{length, get_or, take, drop}
-use Rattle.laws.specs.Cases.{pick_true, pick-false}
 use Rattle.rules.specs.declared.numbers.Refusal.{Refusal}
 use Rattle.rules.specs.Access.{busy_refusal}
-use Rattle.rules.specs.Numbers.{buffer_size, done, refusal_number, number_of}
+use Rattle.rules.specs.Registers.{active_of}
+use Rattle.rules.specs.Numbers.{buffer_size, done, locked, refusal_number, number_of}
 use Rattle.rules.specs.Tables.{start_of}
 use Rattle.rules.proofs.Laws.Numbers.{refusal_positive, test_refuses, test_passes}
 use Rattle.channel.specs.declared.state.Channel.{Channel}
@@ -49,22 +49,22 @@ module _ (d : Deed) (o : Own) (r : Result (Unit {0}) Refusal) (e : number_of r �
   unfolding deed_after deed_out
   refused-did x n =
       let ne = ne_eqb (refusal_number x) 0 (λ q. let p = refusal_positive x in omega (arith, p, q)) in
-      record { number = n; own = rw (← n) (pick-false _ _ _ _ ne refl); out = rw (← n) (pick-false _ _ _ _ ne refl) }
+      record { number = n; own = rw (← n, ne) refl; out = rw (← n, ne) refl }
 
   pub busy-did : (x : Refusal) → r ≡ Err x → Did d o (Err x) o d.lent
   unfolding busy_refusal deed_number
-  busy-did x z = refused-did x (test_refuses _ _ _ _ e x z)
+  busy-did x z = refused-did x (test_refuses _ (active_of o.channel.head.walk.phase) locked (d.number o) e x z)
 
   module _ (t : Unit {0}) (z : r ≡ Ok t) where
     pub own-did : (x : Refusal) → refusal_number x ≡ d.number o → Did d o (Err x) o d.lent
     unfolding busy_refusal deed_number
-    own-did x n = refused-did x (test_passes _ _ _ _ e t _ (omega arith) z n)
+    own-did x n = refused-did x (test_passes _ (active_of o.channel.head.walk.phase) locked (d.number o) e t _ (omega arith) z n)
 
     pub done-did : done ≡ d.number o → Did d o (Ok tt) (d.change o) (d.hands o)
     unfolding busy_refusal deed_number deed_after deed_out
     done-did n =
-        let k = test_passes _ _ _ _ e t _ (omega arith) z n in
-        record { number = k; own = rw (← k) (pick_true _ _ _ _ refl refl); out = rw (← k) (pick_true _ _ _ _ refl refl) }
+        let k = test_passes _ (active_of o.channel.head.walk.phase) locked (d.number o) e t _ (omega arith) z n in
+        record { number = k; own = rw (← k) refl; out = rw (← k) refl }
 
 -- ---- of the bytes of a window
 pub did_in : (d : Deed) (c : Channel) (m k : List ℕ) (r : Result (Unit {0}) Refusal) (q : Own) (l : List ℕ) → m ≡ k → Did d (own_by c m) r q l → Did d (own_by c k) r q l

@@ -1,7 +1,6 @@
 -- A file read and then written, and written and then read.
 use Rattle.std.specs.Prelude.{ℕ, zero, suc, ◌+◌, ◌≤◌, List, [], ◌∷◌, ◌++◌, Result, Ok, Err, ◌≡◌, refl, length, get_or, take, drop, replicate}
 use Rattle.std.proofs.Common.{sym, ◌∙◌, ap, subst, arith, le-leb, leb-true, le-ltb, ltb-false, length-drop, take_at, length-take-le}
-use Rattle.laws.specs.Pick.{when◌then◌else◌}
 use Rattle.laws.specs.Cases.{accepted, not_refused}
 use Rattle.rules.specs.Numbers.{buffer_size, done, not_a_file, no_room}
 use Rattle.rules.specs.Tables.{start_of, sum_of, fitting}
@@ -33,7 +32,7 @@ start-total x l (suc v) = rw (start-total x l v) (sym (total-suc l v))
 
 -- ---- room
 pub room_fits : (lens : List ℕ) (room : ℕ) → sum_of lens ≤ buffer_size → size_of lens ≤ room → room_number lens room ≡ 0
-unfolding room_number fitting when◌then◌else◌
+unfolding room_number fitting
 room_fits lens room h k = rw (le-leb _ _ h, le-ltb room (size_of lens) k)
 
 pub fits_room : (lens : List ℕ) (room : ℕ) → room_number lens room ≡ 0 → (sum_of lens ≤ buffer_size) × (size_of lens ≤ room)

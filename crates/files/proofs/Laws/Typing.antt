@@ -7,7 +7,6 @@ use Rattle.std.proofs.Common.{sym, ◌∙◌, subst, zero-add, add-one, arith}
 use borrow.Author.Tests.{eq-eqb, ne_eqb, le-ltb, lt-ltb}
 use Rattle.std.proofs.Math.Dec.{eqb}
 use Rattle.std.proofs.lemmas.List.Edits.{sets, sets-eq}
-use Rattle.laws.specs.Pick.{when◌then◌else◌}
 use Rattle.laws.specs.Lists.{All}
 use Rattle.rules.specs.declared.registers.Register.{Register}
 use Rattle.rules.specs.declared.registers.Register.TheVariants.{Slatable, Tranconfig, Data}
@@ -37,7 +36,7 @@ use Rattle.files.proofs.Laws.Trips.{sum_over}
 
 -- ---- a write that is not refused
 place_at : (k n : ℕ) → k < 3 → n < 16 → place_of k (register_at k n) ≡ Some (register_named n)
-unfolding place_of register_place when◌then◌else◌
+unfolding place_of register_place
 place_at k n h l =
     let q : (0xC0 + 16 * k + n) / 16 ≡ 12 + k = omega arith in
     let m : (0xC0 + 16 * k + n) % 16 ≡ n = omega arith in
@@ -48,7 +47,7 @@ module _ (k : ℕ) (below : k < 3) (o : Own) (v : ℕ) (s : Sound o) where
   step_open : (n : ℕ) (reg : Register) → n < 16 → register_named n ≡ reg → preset_of reg ≡ false
       → refusal_of (keyed o.channel reg v).head o.channel.tranconfig reg v ≡ 0
       → outcome_of o.channel o.bytes k (Write (register_at k n) v) ≡ written_by (keyed o.channel reg v) o.bytes reg v
-  unfolding outcome_of range_number guarded served_by write_at put_of write_of resets_of when◌then◌else◌
+  unfolding outcome_of range_number guarded served_by write_at put_of write_of resets_of
   step_open n reg l named calm e =
       rw (s.whole, s.ranged, place_at k n below l, named, e, calm)
 
@@ -99,28 +98,28 @@ idle-locked Waiting at e = absurd (omega (arith, false_not_true (sym e)))
 
 conf_free : (o : Own) (v : ℕ) → IdleOwn o → o.channel.head.ptrs.conf < 65 → too_many o.channel.head.ptrs.conf v ≡ false
     → refusal_of (keyed o.channel Tranconfig v).head o.channel.tranconfig Tranconfig v ≡ 0
-unfolding refusal_of conf_refusal when◌then◌else◌
+unfolding refusal_of conf_refusal
 conf_free o v i l few = rw (idle-locked o.channel.head.walk.phase o.channel.head.ptrs.conf i, le-ltb 64 o.channel.head.ptrs.conf (omega arith), few)
 
 sla_free : (o : Own) (v : ℕ) → IdleOwn o → o.channel.head.ptrs.sla < 64 → refusal_of (keyed o.channel Slatable v).head o.channel.tranconfig Slatable v ≡ 0
-unfolding refusal_of sla_refusal past_refusal when◌then◌else◌
+unfolding refusal_of sla_refusal past_refusal
 sla_free o v i l = rw (i, le-ltb 63 o.channel.head.ptrs.sla (omega arith))
 
 data_free : (o : Own) (v : ℕ) → IdleOwn o → o.channel.head.ptrs.buf < buffer_size → o.channel.head.ptrs.buf < sum_of o.channel.tranconfig
     → refusal_of (keyed o.channel Data v).head o.channel.tranconfig Data v ≡ 0
-unfolding refusal_of data_refusal spot_of configured_at when◌then◌else◌
+unfolding refusal_of data_refusal spot_of configured_at
 data_free o v i l c = rw (i, lt-ltb o.channel.head.ptrs.buf buffer_size l, lt-ltb o.channel.head.ptrs.buf (sum_of o.channel.tranconfig) c)
 
 named_conf : register_named 4 ≡ Tranconfig
-unfolding register_named table_at when◌then◌else◌
+unfolding register_named table_at
 named_conf = refl
 
 named_sla : register_named 3 ≡ Slatable
-unfolding register_named table_at when◌then◌else◌
+unfolding register_named table_at
 named_sla = refl
 
 named_data : register_named 5 ≡ Data
-unfolding register_named table_at when◌then◌else◌
+unfolding register_named table_at
 named_data = refl
 
 -- an Idle channel in range
@@ -223,7 +222,7 @@ module _ (k : ℕ) (below : k < 3) (f : List ℕ) (r : Readable f) (o : Own) (h 
   counted = M.after o (Write (register_at k 4) (count_in f))
 
   few : too_many o.channel.head.ptrs.conf (count_in f) ≡ false
-  unfolding too_many when◌then◌else◌
+  unfolding too_many
   few = rw w.conf (le-ltb 64 (count_in f) (readable_count f r))
 
   first : One k (register_at k 4) conf_of conf_at Ready (beside_conf) o (count_in f)
@@ -234,7 +233,7 @@ module _ (k : ℕ) (below : k < 3) (f : List ℕ) (r : Readable f) (o : Own) (h 
   Behind q = Ready q × (1 ≤ conf_at q)
 
   length-one : (q : Own) (v : ℕ) → Behind q → conf_at q < 65 → One k (register_at k 4) conf_of conf_at Behind beside_conf q v
-  unfolding too_many when◌then◌else◌
+  unfolding too_many
   length-one q v g l =
       let ne : eqb (conf_at q) 0 ≡ false = ne_eqb (conf_at q) 0 (λ e. let z = g.1 in omega (arith, e, z)) in
       let x = conf_one k below q v g.0 l (rw ne) in

@@ -1,5 +1,5 @@
 -- The file's round trip: the file of blocks gives them back and is readable, and a readable file is the file of its blocks.
-use Rattle.std.specs.Prelude.{ℕ, ◌+◌, ◌*◌, ◌≤◌, Bool, false, Result, Ok, Err, ◌≡◌, refl, bytes_eq, drop}
+use Rattle.std.specs.Prelude.{ℕ, ◌+◌, ◌*◌, ◌≤◌, Bool, false, Result, Ok, Err, ◌≡◌, refl, bytes_eq, drop, if◌then◌else◌}
 use Rattle.std.proofs.Math.Bool.{true}
 use mathlib.Core.List.{List, ◌++◌, append_assoc}
 use Rattle.std.proofs.Math.Path.{sym, ap}
@@ -9,7 +9,6 @@ use borrow.Author.Tests.{ltb-false, le-ltb}
 use lib.Pointwise.{bytes_decides}
 use Rattle.std.proofs.Math.ListN.{length, take, length-append, take-append-drop}
 use Rattle.std.proofs.Math.Seq.{take_at, drop_at}
-use Rattle.laws.specs.Pick.{when◌then◌else◌}
 use Rattle.rules.specs.Numbers.{buffer_size}
 use Rattle.files.specs.declared.format.Fault.{Fault}
 use Rattle.files.specs.File.{header_of, file_of, total, count_in, body_of, addresses_in, lengths_in, data_in, headed, body_fault, fault_of, fault_number, Readable, Blocks, over}
@@ -65,7 +64,7 @@ module _ (a b d : List ℕ) (h : Blocks a b d) where
 
   -- WHAT THE WRITER GIVES IS READABLE
   pub written_readable : Readable (file_of a b d)
-  unfolding fault_of body_fault headed when◌then◌else◌
+  unfolding fault_of body_fault headed
   written_readable =
       let g = file_of a b d in
       let s : total (lengths_in g) ≡ length d = ap total lengths_of ∙ sym h.sums in
@@ -98,13 +97,11 @@ no_fault : (x : Fault) → ◌≡◌ {A = Result (Unit {0}) Fault} (Err x) (Ok t
 no_fault x e = let n = ap fault_number e in omega (arith, n)
 
 -- a test that finds a fault was passed
-unfaulted : (b : Bool) (x : Fault) (y : Result (Unit {0}) Fault) → (when b then Err x else y) ≡ Ok tt → (b ≡ false) × (y ≡ Ok tt)
-unfolding when◌then◌else◌
+unfaulted : (b : Bool) (x : Fault) (y : Result (Unit {0}) Fault) → (if b then Err x else y) ≡ Ok tt → (b ≡ false) × (y ≡ Ok tt)
 unfaulted true x y e = absurd (no_fault x e)
 unfaulted false x y e = (refl, e)
 
-sound_true : (b : Bool) (x : Fault) → ◌≡◌ {A = Result (Unit {0}) Fault} (when b then Ok tt else Err x) (Ok tt) → b ≡ true
-unfolding when◌then◌else◌
+sound_true : (b : Bool) (x : Fault) → ◌≡◌ {A = Result (Unit {0}) Fault} (if b then Ok tt else Err x) (Ok tt) → b ≡ true
 sound_true true x e = refl
 sound_true false x e = absurd (no_fault x e)
 

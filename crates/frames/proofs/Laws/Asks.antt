@@ -1,7 +1,6 @@
 -- A step that asks for a frame meets none under way, and resets nothing; and STA, TICK and a trigger edge ask for one.
 use Rattle.std.specs.Prelude.{ℕ, zero, suc, ◌+◌, ◌*◌, ◌<◌, Bool, true, false, ◌≡◌, refl, eqb, Option, Some, None}
 use Rattle.std.proofs.Common.{arith, eq-eqb, lt-ltb}
-use Rattle.laws.specs.Pick.{when◌then◌else◌}
 use Rattle.laws.specs.Cases.{pick_holds, both}
 use Rattle.rules.specs.declared.parts.Kind.{Kind}
 use Rattle.rules.specs.declared.state.Phase.{Phase}
@@ -94,12 +93,12 @@ runs_unasked c p (All (AllReset z)) r = refl
 runs_unasked c p (All Beyond) r = refl
 
 pub runs_unbegun : (c : ℕ) (p : Part) (t : Target) → runs_of (chan p c).head.walk.phase ≡ true → begins_by c p t ≡ false
-unfolding begins_by when◌then◌else◌
+unfolding begins_by
 runs_unbegun c p t r = rw (runs_unasked c p t r)
 
 -- ---- what asks for a frame resets nothing
 place_unreset : (c : Channel) (p : Option Register) (v : ℕ) → place_begins c p v ≡ true → place_resets c p v ≡ false
-unfolding resets_of when◌then◌else◌
+unfolding resets_of
 place_unreset c (Some reg) v e = rw (is_control_lem reg (both _ _ e).0)
 place_unreset c None v e = no e
 
@@ -109,7 +108,7 @@ op_unreset c number (Read a) e = refl
 op_unreset c number (Wire x) e = refl
 
 pub asks_unreset : (c : ℕ) (p : Part) (t : Target) → asks_by c p t ≡ true → resets_by c p t ≡ false
-unfolding asks_by resets_by when◌then◌else◌
+unfolding asks_by resets_by
 asks_unreset c p (One op d) e =
     split c (λ t. asks_by c p t ≡ true → resets_by c p t ≡ false) (λ op e. let q = eq-eqb c c refl in rw q (op_unreset (chan p c) c op (rw q at e))) (λ op d q e. rw q refl) op d e
 asks_unreset c p (All (CtrlWrite reg v)) e = no e
@@ -120,14 +119,14 @@ asks_unreset c p (All Beyond) e = no e
 
 -- ---- STA, TICK and a trigger edge
 control_target : (c v : ℕ) → c < 3 → target_of (WriteStep (0xC0 + 16 * c) v) ≡ One (Write (0xC0 + 16 * c) v) c
-unfolding target_of write_target channel_at when◌then◌else◌
+unfolding target_of write_target channel_at
 control_target zero v h = refl
 control_target (suc zero) v h = refl
 control_target (suc (suc zero)) v h = refl
 control_target (suc (suc (suc c))) v h = absurd (omega (arith, h))
 
 control_place : (c : ℕ) → c < 3 → place_of c (0xC0 + 16 * c) ≡ Some Control
-unfolding place_of register_place register_at table_at when◌then◌else◌
+unfolding place_of register_place register_at table_at
 control_place zero h = refl
 control_place (suc zero) h = refl
 control_place (suc (suc zero)) h = refl
@@ -139,14 +138,14 @@ module _ (c : ℕ) (p : Part) (low : c < 3) where
 
   pub sta_asks : (v : ℕ) → (chan p c).head.walk.phase ≡ Idle → (command_of v).sta ≡ true → (command_of v).te ≡ false
       → overrun_of (command_of v).aiptrrst (data_place (chan p c).head (chan p c).tranconfig) ≡ false → asks_by c p (target_of (WriteStep (0xC0 + 16 * c) v)) ≡ true
-  unfolding asks_by ask_of asked_in start_asked kept_if when◌then◌else◌
+  unfolding asks_by ask_of asked_in start_asked kept_if
   sta_asks v e sta te over = rw (control_target c v low, own, control_place c low, over, e, sta, te)
 
   pub tick_asks : (chan p c).head.walk.phase ≡ Waiting → ticking_of (chan p c).head.regs.te (framecnt_of (chan p c).head) ≡ true → asks_by c p (target_of (WireStep c Tick)) ≡ true
-  unfolding asks_by target_of wire_target turn_of heard_turn tick_turn when◌then◌else◌
+  unfolding asks_by target_of wire_target turn_of heard_turn tick_turn
   tick_asks e t = rw (lt-ltb c 3 low, own, t, e)
 
   pub edge_asks : (edge : Edge) → (chan p c).head.walk.phase ≡ Waiting → (chan p c).head.regs.te ≡ true → matches_of (chan p c).head.regs.tp edge ≡ true
       → asks_by c p (target_of (Trigger edge)) ≡ true
-  unfolding asks_by target_of edge_beat when◌then◌else◌
+  unfolding asks_by target_of edge_beat
   edge_asks edge e te m = rw (te, m, e)

@@ -1,7 +1,6 @@
 -- A step that asks for a frame, on the level of the part; and the event that a frame awaits.
 use Rattle.std.specs.Prelude.{ℕ, ◌<◌, ◌≤◌, Bool, true, false, List, ◌≡◌, refl, length}
 use Rattle.std.proofs.Common.{sym, ◌∙◌, ap, ap₂, arith, le-ltb, lt-ltb}
-use Rattle.laws.specs.Pick.{when◌then◌else◌}
 use Rattle.laws.specs.Cases.{pick_holds}
 use Rattle.rules.specs.declared.parts.Kind.{Kind}
 use Rattle.rules.specs.declared.parts.Kind.TheVariants.{Fm, Ufm}
@@ -76,7 +75,7 @@ awaited k Waiting = Stop
 -- in a phase that the range admits
 awaited_turn : (c : Channel) (m : List ℕ) (k : Kind) (p : Phase) → count_of c ≤ 64 → frame_in k p c.slatable c.tranconfig c.bytecount ≡ true → runs_of p ≡ true
     → Zero (turned c m (turn_of k p c.head.regs.te (framecnt_of c.head) (awaited k p))).stepped
-unfolding turn_of heard_turn turned ack_address ack_sending received clocked awaited when◌then◌else◌
+unfolding turn_of heard_turn turned ack_address ack_sending received clocked awaited
 awaited_turn c m k Idle few f e = no e
 awaited_turn c m k (Address n) few f e = rw (ack_turn_lem k (Address n) c.head.regs.te (framecnt_of c.head)) (pick_holds Zero (reads_of (slave_of c n)) (λ _. refl) (λ _. sends c m n 0 _))
 awaited_turn c m k (Sending n) few f e = rw (ack_turn_lem k (Sending n) c.head.regs.te (framecnt_of c.head)) (sends (counted_one c n) m n _ _)
@@ -97,7 +96,7 @@ awaited_cost k Waiting = refl
 -- an event of channel c is answered as the channel answers it
 event_number : (c : ℕ) (s : State) (e : Event) → c < 3 → Accepted s
     → (the_part.answer s (Wire c e)).number ≡ (turned (channel_of c s) (buffer_of c s) (turn_at (channel_of c s).head e)).stepped.answer.number
-unfolding target_of wire_target part_served target_served forgetting one_step served_by event_at when◌then◌else◌
+unfolding target_of wire_target part_served target_served forgetting one_step served_by event_at
 event_number c s e low acc = rw (step_accepted s.part s.memory (Wire c e) acc, lt-ltb c 3 low, le-ltb 2 c (omega (arith, low)))
 
 pub awaits : (c : ℕ) (s : State) → c < 3 → Accepted s → runs_of (channel_of c s).head.walk.phase ≡ true → Awaits c s

@@ -1,8 +1,7 @@
 -- How many events a frame can still take, what the logger knows, and what a step leaves that has done with transaction n.
-use Rattle.std.specs.Prelude.{ℕ, ◌+◌, ◌-◌, ◌<◌, ◌≤◌, Bool, true, false, List, ◌≡◌, ltb, get_or}
+use Rattle.std.specs.Prelude.{ℕ, ◌+◌, ◌-◌, ◌<◌, ◌≤◌, Bool, true, false, List, ◌≡◌, ltb, get_or, if◌then◌else◌}
 use Rattle.std.proofs.Math.Path.{refl}
 use Rattle.std.proofs.Common.{arith, ltb-true}
-use Rattle.laws.specs.Pick.{when◌then◌else◌}
 use Rattle.laws.specs.Cases.{pick_holds}
 use Rattle.rules.specs.declared.state.Phase.{Phase}
 use Rattle.rules.specs.declared.state.Phase.TheVariants.{Idle, Address, Sending, Receiving, Stopping, Waiting}
@@ -51,7 +50,7 @@ abbrev pub gain : Bool → Action → ℕ
 gain here Nothing = 0
 gain here (S x) = 0
 gain here (R x) = 0
-gain here (D b) = when here then 1 else 0
+gain here (D b) = if here then 1 else 0
 gain here C = 0
 gain here A = 0
 gain here Np = 0
@@ -83,7 +82,7 @@ Onto sla lens n Halt = Unit {0}
 Onto sla lens n (Send to) = (to ≡ next_from sla lens (n + 1)) × (to < get_or lens 0 0)
 
 onto : (sla : Slaves) (lens : List ℕ) (n : ℕ) (halt : Bool) → Onto sla lens n (move_of halt (reach_of sla.kind halt n sla.table lens) (get_or lens 0 0))
-unfolding move_of reach_of when◌then◌else◌ Onto
+unfolding move_of reach_of Onto
 onto sla lens n true = tt
 onto sla lens n false = pick_holds (Onto sla lens n) (ltb (next_from sla lens (n + 1)) (get_or lens 0 0)) (λ t. (refl, ltb-true _ _ t)) (λ _. tt)
 

@@ -1,10 +1,9 @@
 -- Each BYTECOUNT until the next begin or reset: in the frame it grows by what the logger counts, after the frame it stays.
-use Rattle.std.specs.Prelude.{ℕ, ◌+◌, ◌<◌, Bool, true, false, ◌≡◌, length}
+use Rattle.std.specs.Prelude.{ℕ, ◌+◌, ◌<◌, Bool, true, false, ◌≡◌, length, if◌then◌else◌}
 use mathlib.Core.List.{List, [], ◌∷◌}
 use Rattle.std.proofs.Math.Path.{refl, sym}
 use Rattle.std.proofs.Common.{◌∙◌}
 use native.Mathlib.Omega.{arith}
-use Rattle.laws.specs.Pick.{when◌then◌else◌}
 use Rattle.laws.specs.Cases.{pick_holds}
 use Rattle.steps.specs.declared.map.Target.{Target}
 use Rattle.steps.specs.declared.answer.PartAnswer.{PartAnswer}
@@ -25,8 +24,7 @@ decide : {X : Type 0} (b : Bool) → (b ≡ true → X) → (b ≡ false → X) 
 decide true f g = f refl
 decide false f g = g refl
 
-not_both : (a b : Bool) → (when a then b else false) ≡ false → a ≡ true → b ≡ false
-unfolding when◌then◌else◌
+not_both : (a b : Bool) → (if a then b else false) ≡ false → a ≡ true → b ≡ false
 not_both a b e t = rw t at e
 
 module _ {A : Type 0} (M : Machine State A PartAnswer) (aim : A → Target) (f : Follows M aim) (c : ℕ) (low : c < 3) where
@@ -81,7 +79,7 @@ module _ {A : Type 0} (M : Machine State A PartAnswer) (aim : A → Target) (f :
       (λ e. let o = one M aim f c low s w a h r e in
       let u = o.holding in
       let v = o.runs in
-      pick_holds (λ x. Spends s x (a ∷ (when ends_of (entry_at M aim c s a).heard then [] else frame_of M aim c (M.after s a) l))) (begins_by c s.part (aim a))
+      pick_holds (λ x. Spends s x (a ∷ (if ends_of (entry_at M aim c s a).heard then [] else frame_of M aim c (M.after s a) l))) (begins_by c s.part (aim a))
       (λ t. no (sym o.unbegun ∙ t))
       (λ _. pick_holds (λ y. Spends s (a ∷ until_next M aim c (M.after s a) l) (a ∷ y)) (ends_of (entry_at M aim c s a).heard)
       (λ t. let i = silent_rest l (M.after s a) (record { accepted = u.accepted; inside = u.inside; calm = rw t at v }) in omega (arith, i))

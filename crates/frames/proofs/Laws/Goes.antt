@@ -1,11 +1,10 @@
 -- What a step does to a frame under way.
-use Rattle.std.specs.Prelude.{ℕ, ◌+◌, ◌<◌, ◌≤◌, Bool, true, false, not, List, ◌≡◌, eqb, ltb, get_or, set}
+use Rattle.std.specs.Prelude.{ℕ, ◌+◌, ◌<◌, ◌≤◌, Bool, true, false, not, List, ◌≡◌, eqb, ltb, get_or, set, if◌then◌else◌}
 use Rattle.std.proofs.Math.Path.{refl, ap}
 use Rattle.std.proofs.Common.{sym, ◌∙◌, ltb-true, ltb-false, eqb-true, get_or-set_same, get_or-set_other}
 use native.Mathlib.Omega.{arith}
 use Rattle.std.proofs.lemmas.Bool.{eqb-false}
 use Rattle.std.proofs.Math.ListN.{length, length-set}
-use Rattle.laws.specs.Pick.{when◌then◌else◌}
 use Rattle.laws.specs.Cases.{pick_holds, false_not_true}
 use Rattle.rules.specs.declared.parts.Kind.{Kind}
 use Rattle.rules.specs.declared.parts.Kind.TheVariants.{Fm, Ufm}
@@ -74,17 +73,17 @@ acks Ufm = record { cost = refl; fault = refl; ends = refl; counts = λ w. refl 
 
 -- ---- the counts: none is heard, or one
 pub one_none : (at k : ℕ) → one_of false at k ≡ 0
-unfolding one_of when◌then◌else◌
+unfolding one_of
 one_none at k = refl
 
 pub none_counted : (w : Watch) (h : Heard) (l : List ℕ) → data_heard w h ≡ false → (k : ℕ) → get_or l k 0 ≡ get_or l k 0 + one_of (data_heard w h) w.at k
 none_counted w h l e k = let z : one_of (data_heard w h) w.at k ≡ 0 = rw e (one_none w.at k) in omega (arith, z)
 
 one-counted : (l : List ℕ) (n k : ℕ) → n < length l → get_or (set l n (get_or l n 0 + 1)) k 0 ≡ get_or l k 0 + one_of true n k
-unfolding one_of when◌then◌else◌
+unfolding one_of
 one-counted l n k h = go (eqb n k) refl
   where
-    go : (b : Bool) → eqb n k ≡ b → get_or (set l n (get_or l n 0 + 1)) k 0 ≡ get_or l k 0 + (when eqb n k then 1 else 0)
+    go : (b : Bool) → eqb n k ≡ b → get_or (set l n (get_or l n 0 + 1)) k 0 ≡ get_or l k 0 + (if eqb n k then 1 else 0)
     go true e = let q : n ≡ k = eqb-true n k e in rw (e, ← q) (get_or-set_same l n _ 0 h)
     go false e =
         let q = get_or-set_other l n k (get_or l n 0 + 1) 0 (λ x. eqb-false n k e (sym x)) in
@@ -103,7 +102,6 @@ at_of p c n few e =
     record { below = s.below; few = few; room = start_next c.tranconfig n _ s.below; next = sym (start-more c.tranconfig n _ _ refl refl) }
 
 data_gain : (b : ℕ) → gain true (D b) ≡ 1
-unfolding when◌then◌else◌
 data_gain b = refl
 
 -- a byte is left

@@ -3,7 +3,6 @@ use Rattle.std.specs.Prelude.{ℕ, zero, suc, ◌<◌, true, List, ◌≡◌, le
 use Rattle.std.proofs.Math.Path.{refl}
 use Rattle.std.proofs.Common.{◌∙◌, arith, get_or-set_same}
 use borrow.Author.Tests.{eq-eqb}
-use Rattle.laws.specs.Pick.{when◌then◌else◌}
 use Rattle.rules.specs.declared.parts.Device.{Device}
 use Rattle.rules.specs.declared.registers.Register.{Register}
 use Rattle.rules.specs.Registers.{place_of}
@@ -29,7 +28,7 @@ use Rattle.frames.proofs.Laws.View.{split, left_size, resets-left}
 use Rattle.frames.proofs.Laws.Runs.{Follows}
 
 place_resets_lem : (c : Channel) (m : List ℕ) (p : Option Register) (v : ℕ) → place_resets c p v ≡ true → Fresh (write_at c m p v).stepped.channel
-unfolding write_at put_of when◌then◌else◌
+unfolding write_at put_of
 place_resets_lem c m (Some reg) v e = rw e
 place_resets_lem c m None v e = no e
 
@@ -50,7 +49,7 @@ module _ (p : Part) (m : List ℕ) (c : ℕ) (low : c < 3) (inside : c < length 
   ResetAt t = resets_by c p t ≡ true → Fresh (chan (target_served p m t).part c)
 
   target_fresh : (t : Target) → resets_by c p t ≡ true → Fresh (chan (target_served p m t).part c)
-  unfolding ResetAt resets_by target_served all_served one_step ctrl_put when◌then◌else◌
+  unfolding ResetAt resets_by target_served all_served one_step ctrl_put
   target_fresh (One op d) e =
       split c ResetAt
       (λ op e. let q = eq-eqb c c refl in rw (get_or-set_same p.channels c _ blank inside) (op_resets_lem (chan p c) _ c op (rw q at e)))

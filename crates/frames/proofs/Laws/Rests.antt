@@ -4,7 +4,6 @@ use Rattle.std.proofs.Math.Bool.{true, false}
 use Rattle.std.proofs.Math.Path.{refl}
 use Rattle.std.proofs.Common.{sym, ◌∙◌, ap, arith}
 use borrow.Author.Tests.{ltb-false, le-ltb, eqb-true, eq-eqb}
-use Rattle.laws.specs.Pick.{when◌then◌else◌}
 use Rattle.laws.specs.Cases.{pick_holds, both}
 use Rattle.rules.specs.declared.parts.Kind.{Kind}
 use Rattle.rules.specs.declared.parts.Straps.{Straps}
@@ -82,7 +81,7 @@ module _ (c : Channel) where
   First (Send k) = k ≡ first_of c
 
   first_move : First (move_of false (first_of c) (count_of c))
-  unfolding move_of when◌then◌else◌ First
+  unfolding move_of First
   first_move =
       pick_holds First (ltb (first_of c) (count_of c)) (λ _. refl)
       (λ t. let h = ltb-false (first_of c) (count_of c) t in let g = sent_to_lem (kind_of c.head) c.slatable c.tranconfig 0 (count_of c - 0) in omega (arith, h, g))
@@ -96,12 +95,12 @@ module _ (c : Channel) where
   Leads b = Started c (began_by c b)
 
   may : (b : Bool) → eqb (count_of c) 0 ≡ false → fitting c.tranconfig ≡ b → may_begin c ≡ b
-  unfolding beginning_of when◌then◌else◌
+  unfolding beginning_of
   may true p q = rw (p, q)
   may false p q = rw (p, q)
 
   may_not : eqb (count_of c) 0 ≡ true → may_begin c ≡ false
-  unfolding beginning_of when◌then◌else◌
+  unfolding beginning_of
   may_not p = rw p
 
   begun-starts : Started c (begun c)
@@ -205,7 +204,7 @@ module _ (c : Channel) (m : List ℕ) (calm : runs_of c.head.walk.phase ≡ fals
   asked_outside h q e Leave = rests (idle _ _ _ refl) nothing-heard
 
   written_outside : (reg : Register) (v : ℕ) → Access (written_by c m reg v) (reg_begins c reg v)
-  unfolding written_by controlled when◌then◌else◌
+  unfolding written_by controlled
   written_outside (Status n) v = moved _ refl refl refl
   written_outside Control v = asked_outside _ refl calm _
   written_outside Chstatus v = moved _ refl refl refl
@@ -245,7 +244,7 @@ module _ (c : Channel) (m : List ℕ) (calm : runs_of c.head.walk.phase ≡ fals
   begin_heard number = pick_holds Unheard (eqb number 0) (λ _. record { free = refl; dumb = λ w. refl }) (λ _. nothing-heard)
 
   met_outside : (k : Kind) (p : Phase) (e : Event) (t : Turn) → Meeting k p e t → runs_of p ≡ false → Hears e (turned c m t) (turn_begins t)
-  unfolding turned heard_op when◌then◌else◌
+  unfolding turned heard_op
   met_outside k p e t unawaited' r = rests (kept not_awaited) nothing-heard
   met_outside k p e t ack_address' r = no (sym r)
   met_outside k p e t ack_sending' r = no (sym r)
@@ -286,13 +285,13 @@ rekeyed_outside k c m h d true (asks x q e u) = asks x q e u
 -- ---- a step of channel `number` that does not reset it
 module _ (c : Channel) (m : List ℕ) (number : ℕ) (low : number < 3) (calm : runs_of c.head.walk.phase ≡ false) where
   place_outside : (p : Option Register) (v : ℕ) → place_resets c p v ≡ false → Outside c m none (write_at c m p v) (place_begins c p v)
-  unfolding write_at put_of when◌then◌else◌
+  unfolding write_at put_of
   place_outside (Some reg) v e = rw e (rekeyed_outside (key_after (preset_of reg) v) c m none _ _ (write_outside (keyed c reg v) m calm reg v))
   place_outside None v e = rests (kept c m calm nowhere) nothing-heard
 
   pub own_outside : (op : Op) → op_resets c number op ≡ false
       → Outside c m (heard_op op (served_by c m number op).stepped.answer.number) (served_by c m number op) (op_begins c number op)
-  unfolding served_by event_at heard_op when◌then◌else◌
+  unfolding served_by event_at heard_op
   own_outside (Write a v) e = place_outside (place_of number a) v e
   own_outside (Read a) e = read_outside c m calm (place_of number a)
   own_outside (Wire x) e =

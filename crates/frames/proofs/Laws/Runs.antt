@@ -1,11 +1,10 @@
 -- A frame's steps, one after another: by induction, what one step does.
-use Rattle.std.specs.Prelude.{ℕ, zero, suc, ◌+◌, ◌<◌, ◌≤◌, Bool, not, ◌≡◌, eqb, ltb, length, get_or}
+use Rattle.std.specs.Prelude.{ℕ, zero, suc, ◌+◌, ◌<◌, ◌≤◌, Bool, not, ◌≡◌, eqb, ltb, length, get_or, if◌then◌else◌}
 use Rattle.std.proofs.Math.Bool.{true, false}
 use mathlib.Core.List.{List, [], ◌∷◌}
 use Rattle.std.proofs.Math.Path.{refl}
 use Rattle.std.proofs.Common.{sym, ◌∙◌, ap, subst, arith}
 use borrow.Author.Tests.{ltb-true, ltb-false, eqb-true, eqb-false, eq-eqb, ne_eqb}
-use Rattle.laws.specs.Pick.{when◌then◌else◌}
 use Rattle.laws.specs.Cases.{pick_holds}
 use Rattle.rules.specs.Tables.{start_of, reads_of}
 use Rattle.rules.proofs.Laws.Tables.{first_from}
@@ -36,7 +35,6 @@ data Moves (lens : List ℕ) (w v : Watch) (a : Action) : Type 0 where
   next : w.at < v.at → v.given ≡ 0 → gain true a ≡ 0 → Moves lens w v a
 
 moves : (sla : Slaves) (lens m : List ℕ) (w : Watch) (a : Action) → w.given ≤ get_or lens (w.at + 1) 0 → Carries sla lens m w a → Moves lens w (watch_after sla lens w a) a
-unfolding when◌then◌else◌
 moves sla lens m w Nothing g x = same refl (omega arith) g
 moves sla lens m w (S z) g x = absurd x
 moves sla lens m w (R z) g x = let f = first_from sla.kind sla.table lens (w.at + 1) (get_or lens 0 0) in next (omega (arith, f)) refl refl
@@ -71,7 +69,7 @@ same_given lens w v a (same p q r) e = q
 same_given lens w v a (next p q r) e = absurd (omega (arith, p, e))
 
 one_other : (heard : Bool) (at k : ℕ) → (at ≡ k → ⊥) → one_of heard at k ≡ 0
-unfolding one_of when◌then◌else◌
+unfolding one_of
 one_other heard at k ne = pick_holds (λ (x : ℕ). x ≡ 0) heard (λ _. rw (ne_eqb at k ne) refl) (λ _. refl)
 
 -- ---- the bytes of a write: l follow n others; they are fetched from the buffer in order, and all are as many as are counted, or one more
@@ -82,7 +80,6 @@ pub record Fetched (lens m : List ℕ) (k n : ℕ) (l : List ℕ) (count : ℕ) 
   pub most : n + length l ≤ count + 1
 
 gain_none : (a : Action) → gain false a ≡ 0
-unfolding when◌then◌else◌
 gain_none Nothing = refl
 gain_none (S x) = refl
 gain_none (R x) = refl
@@ -118,7 +115,6 @@ module _ (lens m : List ℕ) (k n count : ℕ) where
   -- one entry more
   data_more : (sla : Slaves) (w : Watch) (here : Bool) (a : Action) (l : List ℕ) → (here ≡ true → (w.at ≡ k) × (n ≡ w.given)) → Carries sla lens m w a
       → Fetched lens m k (n + gain here a) l count → Fetched lens m k n (with_data here a l) count
-  unfolding when◌then◌else◌
   data_more sla w here Nothing l h x f = none_more l f
   data_more sla w here (S z) l h x f = none_more l f
   data_more sla w here (R z) l h x f = none_more l f
@@ -169,8 +165,7 @@ abbrev pub left_at : ℕ → State → ℕ
 left_at c s = left_of (channel_of c s).head.walk.phase (channel_of c s).tranconfig (channel_of c s).bytecount
 
 -- two choices by one test
-pub both_hold : {A B : Type 0} (Q : A → B → Type 0) (b : Bool) {x y : A} {u v : B} → (b ≡ true → Q x u) → (b ≡ false → Q y v) → Q (when b then x else y) (when b then u else v)
-unfolding when◌then◌else◌
+pub both_hold : {A B : Type 0} (Q : A → B → Type 0) (b : Bool) {x y : A} {u v : B} → (b ≡ true → Q x u) → (b ≡ false → Q y v) → Q (if b then x else y) (if b then u else v)
 both_hold Q true f g = f refl
 both_hold Q false f g = g refl
 
@@ -319,7 +314,7 @@ module _ {A : Type 0} (M : Machine State A PartAnswer) (aim : A → Target) (f :
 
   pub within : (l : List A) (s : State) (w : Watch) → Holding s w → runs_of (channel_of c s).head.walk.phase ≡ true
       → until_next M aim c s (frame_of M aim c s l) ≡ frame_of M aim c s l
-  unfolding Within until_next when◌then◌else◌
+  unfolding Within until_next
   within = along Within (λ s w b h r. refl) (λ s w a x b h o i. rw (o.unreset, o.unbegun) (ap (λ (y : List A). a ∷ y) i))
 
   -- ---- the moment of each D

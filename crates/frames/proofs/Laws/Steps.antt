@@ -3,7 +3,6 @@ use Rattle.std.specs.Prelude.{ℕ, ◌+◌, ◌<◌, ◌≤◌, Bool, true, fals
 use Rattle.std.proofs.Math.Path.{refl}
 use Rattle.std.proofs.Common.{sym, ap, arith}
 use borrow.Author.Tests.{ltb-true, eqb-true, eq-eqb}
-use Rattle.laws.specs.Pick.{when◌then◌else◌}
 use Rattle.laws.specs.Cases.{pick_holds, both, past}
 use Rattle.rules.specs.declared.parts.Kind.{Kind}
 use Rattle.rules.specs.declared.state.Phase.{Phase}
@@ -285,7 +284,7 @@ module _ (c : Channel) (m : List ℕ) (runs : runs_of c.head.walk.phase ≡ true
   same_stays = head_stays c m _ refl refl refl refl refl
 
 put_stays : (c : Channel) (m : List ℕ) → runs_of c.head.walk.phase ≡ true → (p : Option Register) (v : ℕ) → place_resets c p v ≡ false → Stays c m (write_at c m p v)
-unfolding write_at put_of when◌then◌else◌
+unfolding write_at put_of
 put_stays c m r (Some reg) v e =
     let s = write_stays (keyed c reg v) m r reg v in
     rw e (record { slas = s.slas; lengths = s.lengths; counted = s.counted; phase = s.phase; action = s.action; bytes = s.bytes })
@@ -293,7 +292,7 @@ put_stays c m r None v e = head_stays c m _ refl refl refl refl refl
 
 -- ---- events
 heard-done : (e : Event) (number : ℕ) → number ≡ 0 → heard_op (Wire e) number ≡ event e
-unfolding heard_op when◌then◌else◌
+unfolding heard_op
 heard-done e number z = rw (eq-eqb number 0 z)
 
 module _ (c : Channel) (m : List ℕ) (w : Watch) where
@@ -329,7 +328,7 @@ module _ (c : Channel) (m : List ℕ) (w : Watch) where
   faulty p u e x z q b = done p e _ (over c m w p u e (with_head c (faulted c.head x)) refl refl refl refl z q b)
 
   not_awaited_lem : (p : Phase) → Under c w p → (e : Event) → Hears p e (turned c m Unawaited)
-  unfolding turned heard_op when◌then◌else◌
+  unfolding turned heard_op
   not_awaited_lem p u e = unheard c m w p u _ (head_stays c m _ refl refl refl refl refl)
 
   -- EACH EVENT IN A FRAME, by what it meets
@@ -369,7 +368,7 @@ module _ (c : Channel) (m : List ℕ) (number : ℕ) (w : Watch) (u : Under c w 
   stays_goes d s = unheard c m w c.head.walk.phase u d s
 
   event_goes : (e : Event) → Hears c m w c.head.walk.phase e (event_at c m number e)
-  unfolding event_at heard_op when◌then◌else◌
+  unfolding event_at heard_op
   event_goes e =
       pick_holds (λ d. Hears c m w c.head.walk.phase e d) (ltb 2 number)
       (λ _. stays_goes (leaving m (on c (refused c.head nowhere))) (head_stays c m _ refl refl refl refl refl))

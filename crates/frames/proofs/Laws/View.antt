@@ -1,11 +1,10 @@
 -- A step of the part as one channel sees it.
-use Rattle.std.specs.Prelude.{ℕ, zero, suc, ◌+◌, ◌*◌, ◌<◌, ◌≤◌, Bool, true, false, List, [], ◌∷◌, ◌++◌, map, ◌≡◌, eqb, get_or, take, drop}
+use Rattle.std.specs.Prelude.{ℕ, zero, suc, ◌+◌, ◌*◌, ◌<◌, ◌≤◌, Bool, true, false, List, [], ◌∷◌, ◌++◌, map, ◌≡◌, eqb, get_or, take, drop, if◌then◌else◌}
 use Rattle.std.proofs.Math.Path.{refl, ap}
 use Rattle.std.proofs.Common.{sym, ◌∙◌, subst, arith, not-suc-le-zero, le_of_suc-le-suc, eqb-true, eq-eqb, get_or-set_other, take_at, drop_at, length-take-le}
 use Rattle.std.proofs.lemmas.Bool.{eqb-false}
 use Rattle.std.proofs.Math.ListN.{length, length-set}
 use Rattle.std.proofs.Math.Seq.{get_or-set_same}
-use Rattle.laws.specs.Pick.{when◌then◌else◌}
 use Rattle.laws.specs.Cases.{pick_holds}
 use Rattle.rules.specs.declared.state.Phase.{Phase}
 use Rattle.rules.specs.Access.{key_after, resets_of}
@@ -19,7 +18,7 @@ use Rattle.steps.specs.declared.map.Target.{Target}
 use Rattle.steps.specs.declared.map.Target.TheVariants.{One, All}
 use Rattle.steps.specs.declared.map.Wide.{Wide}
 use Rattle.steps.specs.declared.map.Wide.TheVariants.{CtrlWrite, CtrlRead, AllTrigger, AllReset, Beyond}
-use Rattle.steps.specs.declared.answer.Act.{Act}
+use Rattle.rules.specs.declared.wires.Action.{Action}
 use Rattle.steps.specs.Facts.{InPart}
 use Rattle.steps.specs.Keys.{ctrlpreset_of, op_writes}
 use Rattle.steps.proofs.Laws.Keys.{left_of_lem}
@@ -71,7 +70,7 @@ felt_all c m (AllReset d) = unmoved c m
 felt_all c m Beyond = unmoved c m
 
 unfoldable pub felt_by : Channel → List ℕ → ℕ → Target → Served
-felt_by c m number (One op d) = when eqb d number then served_by c m number op else unmoved c m
+felt_by c m number (One op d) = if eqb d number then served_by c m number op else unmoved c m
 felt_by c m number (All t) = felt_all c m t
 
 -- and before that its key may be forgotten
@@ -79,7 +78,7 @@ abbrev pub felt : Part → List ℕ → ℕ → Target → Served
 felt p m c t = felt_by (chan (forgetting t p) c) m c t
 
 -- channel c of the part q with the memory n and these actions is what d says
-pub record Shows (c : ℕ) (q : Part) (n : List ℕ) (acts : List Act) (many : ℕ) (d : Served) : Type 0 where
+pub record Shows (c : ℕ) (q : Part) (n : List ℕ) (acts : List Action) (many : ℕ) (d : Served) : Type 0 where
   pub is : chan q c ≡ d.stepped.channel
   pub bytes : window c n ≡ d.bytes
   pub action : action_at c acts ≡ d.stepped.answer.action
@@ -118,7 +117,7 @@ module _ (p : Part) (m : List ℕ) (c : ℕ) (whole : Whole p m) (low : c < 3) (
   own op = record {
     is = get_or-set_same p.channels c _ blank inside;
     bytes = window_same c _ m (one-length p m whole c op low) (fits c m low whole.whole);
-    action = ap (λ (x : Act). x.action) (get_or-set_same quiet c _ _ low);
+    action = get_or-set_same quiet c _ _ low;
     size = length-set p.channels c _;
   }
 
@@ -129,7 +128,7 @@ module _ (p : Part) (m : List ℕ) (c : ℕ) (whole : Whole p m) (low : c < 3) (
       record {
         is = o.records c ne;
         bytes = o.windows c ne;
-        action = ap (λ (x : Act). x.action) (get_or-set_other quiet d c _ _ (λ e. ne (sym e))) ∙ quiet_at c;
+        action = get_or-set_other quiet d c _ _ (λ e. ne (sym e)) ∙ quiet_at c;
         size = length-set p.channels d _;
       }
 
@@ -148,7 +147,7 @@ module _ (p : Part) (m : List ℕ) (c : ℕ) (whole : Whole p m) (low : c < 3) (
   written k Ctrlrdy v = left _ refl
 
   put : (reg : Ctrl) (v : ℕ) → resets_of (ctrlpreset_of reg) v p.key ≡ false → Sees (ctrl_put p reg v) (ctrl_store p m reg v) (unmoved (chan p c) (window c m))
-  unfolding ctrl_put ctrl_store when◌then◌else◌
+  unfolding ctrl_put ctrl_store
   put reg v e = rw e (written (key_after (ctrlpreset_of reg) v) reg v)
 
   read : (reg : Ctrl) → Sees (ctrl_read p reg) m (unmoved (chan p c) (window c m))
@@ -166,7 +165,7 @@ module _ (p : Part) (m : List ℕ) (c : ℕ) (whole : Whole p m) (low : c < 3) (
   edge e = record {
     is = map_at (edge_channel e) p.channels c blank blank inside;
     bytes = refl;
-    action = ap (λ (x : Act). x.action) (map_at (edge_act e) p.channels c blank (record { action = Nothing }) inside);
+    action = map_at (edge_act e) p.channels c blank Nothing inside;
     size = map-length (edge_channel e) p.channels;
   }
 
@@ -183,7 +182,7 @@ module _ (p : Part) (m : List ℕ) (c : ℕ) (whole : Whole p m) (low : c < 3) (
   SeenAt t = InPart t → resets_by c p t ≡ false → Sees (target_served p m t) (target_stored p m t) (felt_by (chan p c) (window c m) c t)
 
   target_seen : (t : Target) → InPart t → resets_by c p t ≡ false → Sees (target_served p m t) (target_stored p m t) (felt_by (chan p c) (window c m) c t)
-  unfolding SeenAt target_served target_stored felt_by resets_by when◌then◌else◌
+  unfolding SeenAt target_served target_stored felt_by resets_by
   target_seen (One op d) h e = split c SeenAt (λ op h e. rw (own_eqb c) (own op)) (λ op d q h e. rw q (other d op h (eqb-false d c q))) op d h e
   target_seen (All t) h e = all t e
 
@@ -192,7 +191,7 @@ module _ (p : Part) (m : List ℕ) (c : ℕ) (whole : Whole p m) (low : c < 3) (
   HeardAt t = heard_by c t (target_served p m t).answer.number ≡ heard_by c t (felt_by (chan p c) (window c m) c t).stepped.answer.number
 
   target_heard : (t : Target) → heard_by c t (target_served p m t).answer.number ≡ heard_by c t (felt_by (chan p c) (window c m) c t).stepped.answer.number
-  unfolding HeardAt target_served heard_by felt_by one_step when◌then◌else◌
+  unfolding HeardAt target_served heard_by felt_by one_step
   target_heard (One op d) = split c HeardAt (λ op. rw (own_eqb c)) (λ op d q. rw q) op d
   target_heard (All t) = refl
 
@@ -228,7 +227,7 @@ module _ (p : Part) (c : ℕ) where
   ResetsLeft t = resets_by c (forgetting t p) t ≡ resets_by c p t
 
   pub resets-left : (t : Target) → resets_by c (forgetting t p) t ≡ resets_by c p t
-  unfolding ResetsLeft forgetting resets_by when◌then◌else◌
+  unfolding ResetsLeft forgetting resets_by
   resets-left (One op d) = split c ResetsLeft (λ op. rw (own_eqb c, left_own op)) (λ op d q. rw q) op d
   resets-left (All (CtrlWrite reg v)) = refl
   resets-left (All (CtrlRead reg)) = refl
@@ -240,7 +239,7 @@ module _ (p : Part) (c : ℕ) where
   AsksLeft t = asks_by c (forgetting t p) t ≡ asks_by c p t
 
   asks_left : (t : Target) → asks_by c (forgetting t p) t ≡ asks_by c p t
-  unfolding AsksLeft forgetting asks_by when◌then◌else◌
+  unfolding AsksLeft forgetting asks_by
   asks_left (One op d) = split c AsksLeft (λ op. rw (own_eqb c, left_own op)) (λ op d q. rw q) op d
   asks_left (All (CtrlWrite reg v)) = refl
   asks_left (All (CtrlRead reg)) = refl
@@ -274,7 +273,7 @@ module _ (p : Part) (m : List ℕ) (c : ℕ) (low : c < 3) where
     GoesAt t = resets_by c p t ≡ false → Goes (chan p c).head.walk.phase (chan p c) m w (heard_in t) (felt_by (chan p c) m c t)
 
     target_goes : (t : Target) → resets_by c p t ≡ false → Goes (chan p c).head.walk.phase (chan p c) m w (heard_in t) (felt_by (chan p c) m c t)
-    unfolding GoesAt felt_by heard_by resets_by when◌then◌else◌
+    unfolding GoesAt felt_by heard_by resets_by
     target_goes (One op d) e =
         split c GoesAt (λ op e. rw (own_eqb c) (own_goes (chan p c) m c w u op (rw (own_eqb c) at e))) (λ op d q e. rw q (other_goes (chan p c) m c w u)) op d e
     target_goes (All (CtrlWrite reg v)) e = other_goes (chan p c) m c w u
@@ -288,7 +287,7 @@ module _ (p : Part) (m : List ℕ) (c : ℕ) (low : c < 3) where
     OutsideAt t = resets_by c p t ≡ false → Outside (chan p c) m (heard_in t) (felt_by (chan p c) m c t) (asks_by c p t)
 
     target_outside : (t : Target) → resets_by c p t ≡ false → Outside (chan p c) m (heard_in t) (felt_by (chan p c) m c t) (asks_by c p t)
-    unfolding OutsideAt felt_by heard_by resets_by asks_by when◌then◌else◌
+    unfolding OutsideAt felt_by heard_by resets_by asks_by
     target_outside (One op d) e =
         split c OutsideAt (λ op e. rw (own_eqb c) (own_outside (chan p c) m c low calm op (rw (own_eqb c) at e))) (λ op d q e. rw q (same_outside (chan p c) m calm)) op d e
     target_outside (All (CtrlWrite reg v)) e = same_outside (chan p c) m calm

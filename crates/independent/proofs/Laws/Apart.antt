@@ -1,7 +1,6 @@
 -- The channels of the part keep apart, whatever their steps are: a task of channel c is a work of it.
-use Rattle.std.specs.Prelude.{ℕ, ◌<◌, Bool, true, false, ◌≡◌, refl, ltb}
+use Rattle.std.specs.Prelude.{ℕ, ◌<◌, Bool, true, false, ◌≡◌, refl, ltb, if◌then◌else◌}
 use Rattle.std.proofs.Common.{sym, ◌∙◌, ap, subst, arith, lt-ltb}
-use Rattle.laws.specs.Pick.{when◌then◌else◌}
 use Rattle.steps.specs.declared.map.Step.{Step}
 use Rattle.steps.specs.declared.map.Target.{Target}
 use Rattle.steps.specs.declared.map.Target.TheVariants.{One, All}
@@ -34,8 +33,8 @@ step_is_work a (One op c) is calm h = record {
 step_is_work a (All t) is calm h = absurd (omega arith)
 
 -- the call of a work is that work, of a channel that there is
-call_is_work : (c : ℕ) (w : Work) (b : Bool) → ltb c 3 ≡ b → (when b then c else 3) < 3 → IsWork (work c w) (when b then c else 3)
-unfolding work_done work_reply when◌then◌else◌
+call_is_work : (c : ℕ) (w : Work) (b : Bool) → ltb c 3 ≡ b → (if b then c else 3) < 3 → IsWork (work c w) (if b then c else 3)
+unfolding work_done work_reply
 call_is_work c w true e h = record { w = w; does = λ s g. rw (g, e); says = λ s g. rw (g, e) }
 call_is_work c w false e h = absurd (omega arith)
 
@@ -87,6 +86,5 @@ pub step_of : (c : ℕ) (a : Step) → c < 3 → OfChannel c a → the_part.owne
 step_of c a h x = ap owner_of x.is
 
 pub task_of : (c : ℕ) (t : Task) → c < 3 → TaskOf c t → the_bench.owner t ≡ c
-unfolding when◌then◌else◌
 task_of c (step a) h x = step_of c a h x
 task_of c (work d w) h x = rw (x, lt-ltb _ _ h)

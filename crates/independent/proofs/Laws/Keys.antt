@@ -5,7 +5,6 @@ use Rattle.std.proofs.Math.Path.{refl}
 use Rattle.std.proofs.Common.{sym, ◌∙◌, arith, get_or-set_other}
 use borrow.Author.Tests.{eqb-true, eqb-false, ne_eqb}
 use Rattle.std.proofs.Math.Dec.{eqb}
-use Rattle.laws.specs.Pick.{when◌then◌else◌}
 use Rattle.laws.specs.Cases.{pick_holds, false_not_true}
 use Rattle.rules.specs.declared.parts.Device.{Device}
 use Rattle.rules.specs.Access.{key_after, resets_of}
@@ -44,7 +43,6 @@ only_one c p h x y d e = h x d ∙ sym (h y e)
 
 -- by what stands beside the channels, and by each channel
 only_of : (c : ℕ) (p : Part) → (eqb c 3 ≡ false → p.key ≡ false) → ((x : ℕ) → (c ≡ x → ⊥) → eqb x 3 ≡ false → (chan p x).head.key ≡ false) → OnlyKey c p
-unfolding when◌then◌else◌
 only_of c p key keys x e = go (eqb x c) refl (eqb x 3) refl
   where
     go : (a : Bool) → eqb x c ≡ a → (b : Bool) → eqb x 3 ≡ b → x ≡ c
@@ -71,7 +69,7 @@ Only3 r = OnlyKey 3 r.part
 
 module _ (p : Part) (m : List ℕ) where
   write-only : (a v c : ℕ) → c < 3 → OnlyKey c (one_step (forgotten p c) m c (Write a v)).part
-  unfolding one_step when◌then◌else◌
+  unfolding one_step
   write-only a v c low =
       let q = forgotten p c in
       let below : eqb c 3 ≡ false = ne_eqb c 3 (λ e. omega (arith, e, low)) in
@@ -142,7 +140,7 @@ module _ (p : Part) (m : List ℕ) where
 
   -- BY WHOM A STEP CONCERNS
   served_one : (t : Target) → InPart t → AtMostOneKey p → AtMostOneKey (part_served p m t).part
-  unfolding Only3 part_served target_served forgetting all_served when◌then◌else◌
+  unfolding Only3 part_served target_served forgetting all_served
   served_one (One (Write a v) c) low h = only_one c (one_step (forgotten p c) m c (Write a v)).part (write-only p m a v c low)
   served_one (One (Read a) c) low h = same_one p (one_step p m c (Read a)).part (quiet_same c (Read a) refl) h
   served_one (One (Wire e) c) low h = same_one p (one_step p m c (Wire e)).part (quiet_same c (Wire e) refl) h

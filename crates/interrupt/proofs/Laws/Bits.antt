@@ -2,32 +2,31 @@
 use Rattle.std.specs.Prelude.{ℕ, ◌+◌, ◌*◌, ◌/◌, ◌%◌, ◌≤◌, Bool, true, false, ◌≡◌, refl, eqb}
 use Rattle.std.proofs.Common.{◌∙◌, ap, arith, eq-eqb, ne_eqb, eqb-true}
 use Rattle.std.proofs.lemmas.Bool.{eqb-false}
-use Rattle.laws.specs.Pick.{when◌then◌else◌}
 use Rattle.rules.specs.Registers.{weigh, bit_of}
 
 -- ---- a bit as a number
 
 ones : (b : Bool) (w : ℕ) → weigh b w ≡ weigh b 1 * w
-unfolding weigh when◌then◌else◌
+unfolding weigh
 ones true w = omega arith
 ones false w = omega arith
 
 at_most : (b : Bool) → weigh b 1 ≤ 1
-unfolding weigh when◌then◌else◌
+unfolding weigh
 at_most true = omega arith
 at_most false = omega arith
 
 pub no_bit : (w : ℕ) → weigh false w ≡ 0
-unfolding weigh when◌then◌else◌
+unfolding weigh
 no_bit w = refl
 
 pub unset : (b : Bool) → weigh b 1 ≡ 0 → b ≡ false
-unfolding weigh when◌then◌else◌
+unfolding weigh
 unset true e = absurd (omega (arith, e))
 unset false e = refl
 
 bit_weighed : (b : Bool) (n : ℕ) → n ≡ weigh b 1 → eqb n 1 ≡ b
-unfolding weigh when◌then◌else◌
+unfolding weigh
 bit_weighed true n e = eq-eqb n 1 e
 bit_weighed false n e = ne_eqb n 1 (λ k. omega (arith, e, k))
 

@@ -7,7 +7,6 @@ use Rattle.std.proofs.Common.{◌∙◌, sym, drop-cons}
 use native.Mathlib.Omega.{arith}
 use borrow.Author.Tests.{eqb-true, not-true}
 use Rattle.std.specs.List.{list_any}
-use Rattle.laws.specs.Pick.{when◌then◌else◌}
 use Rattle.laws.specs.Cases.{false_not_true, both}
 use Rattle.laws.specs.Lists.{Some}
 use Rattle.rules.specs.declared.parts.Kind.{Kind}
@@ -34,7 +33,7 @@ pub ruleset rows = (row, beside, on_fm_lem, of_rows, refl)
 
 -- ---- looked through
 pub some_is : (rows : List Bool) → list_any (λ row. row) rows ≡ some_of rows
-unfolding some_of when◌then◌else◌
+unfolding some_of
 some_is [] = refl
 some_is (true ∷ rows) = refl
 some_is (false ∷ rows) = some_is rows
@@ -46,23 +45,23 @@ module _ (cause masked : Bool) where
   row_says e = let h = both cause (not masked) e in (h.0, not-true masked h.1)
 
   pub row_holds : cause ≡ true → masked ≡ false → (cause unless masked) ≡ true
-  unfolding ◌unless◌ when◌then◌else◌
+  unfolding ◌unless◌
   row_holds p q = rw (p, q)
 
 behind : (row : Bool) (rows : List Bool) → some_of rows ≡ true → some_of (row ∷ rows) ≡ true
-unfolding some_of when◌then◌else◌
+unfolding some_of
 behind true rows h = refl
 behind false rows h = h
 
 -- the i-th row holds
 pub holds_at : (rows : List Bool) (i : ℕ) → get_or rows i false ≡ true → some_of rows ≡ true
-unfolding some_of when◌then◌else◌
+unfolding some_of
 holds_at [] i e = e
 holds_at (row ∷ rows) zero e = rw e
 holds_at (row ∷ rows) (suc i) e = behind row rows (holds_at rows i e)
 
 first : (row : Bool) (rows : List Bool) → some_of (row ∷ rows) ≡ true → (row ≡ true) ⊎ (some_of rows ≡ true)
-unfolding some_of when◌then◌else◌
+unfolding some_of
 first true rows e = inl refl
 first false rows e = inr e
 
@@ -93,7 +92,7 @@ all_off f e =
     (sym b.seven, sym b.six, sym b.five, sym b.four, sym b.three, sym b.two, sym b.one, sym b.zero)
 
 pub calm_pending : (kind : Kind) (f : Flags) (m : ℕ) → eqb (chstatus_value f) 0 ≡ true → pending_of kind f m ≡ false
-unfolding pending_of causes_of some_of ◌unless◌ when◌then◌else◌
+unfolding pending_of causes_of some_of ◌unless◌
 calm_pending kind f m e = let h = all_off f (eqb-true (chstatus_value f) 0 e) in rw (h.0, h.1, h.2, h.3, h.4, h.5, h.6, h.7)
 
 -- the flags as the bytes of a word: it is 0 exactly where CHSTATUS is
@@ -107,7 +106,7 @@ pub calm_word : (f : Flags) (r : Bool) (m n x y z u x' y' z' u' : ℕ) → r ≡
     → m ≡ x + y * 0x100 + z * 0x10000 + u * 0x1000000 → n ≡ x' + y' * 0x100 + z' * 0x10000 + u' * 0x1000000
     → x ≡ weigh f.sd 1 → y ≡ weigh f.fld 1 → z ≡ weigh f.we 1 → u ≡ weigh f.re 1
     → x' ≡ weigh f.dae 1 → y' ≡ weigh f.cle 1 → z' ≡ weigh f.sse 1 → u' ≡ weigh f.fe 1 → r ≡ eqb (chstatus_value f) 0
-unfolding chstatus_value weigh when◌then◌else◌
+unfolding chstatus_value weigh
 calm_word f r m n x y z u x' y' z' u' e em en ex ey ez eu ex' ey' ez' eu' = e ∙ both_none (m + n * 0x100000000) (chstatus_value f) down up
   where
     down : m + n * 0x100000000 ≡ 0 → chstatus_value f ≡ 0
@@ -133,7 +132,7 @@ calm_word f r m n x y z u x' y' z' u' e em en ex ey ez eu ex' ey' ez' eu' = e �
 
 -- BE, which the channels share, is only ever set: it does not tell which of two answers came first
 pub be_swap : (be : Bool) (x y : ℕ) → be_after (be_after be x) y ≡ be_after (be_after be y) x
-unfolding be_after when◌then◌else◌
+unfolding be_after
 be_swap be x y = go (eqb x past_buffer) refl (eqb y past_buffer) refl
   where
     go : (a : Bool) → eqb x past_buffer ≡ a → (b : Bool) → eqb y past_buffer ≡ b → be_after (be_after be x) y ≡ be_after (be_after be y) x

@@ -4,12 +4,11 @@ use mathlib.Core.Bool.{Bool, true, false}
 use mathlib.Core.Path.{◌≡◌, refl}
 use mir.Val.{bool_byte}
 use native.Mathlib.Omega.{arith}
-use Rattle.laws.specs.Pick.{when◌then◌else◌}
 use Rattle.rules.specs.Registers.{weigh}
 use Rattle.interrupt.proofs.number.Goals as goal
 
 as_byte : (b : Bool) → (bool_byte b ≡ weigh b 1) × (bool_byte b ≤ 1)
-unfolding weigh when◌then◌else◌
+unfolding weigh
 as_byte true = (refl, omega arith)
 as_byte false = (refl, omega arith)
 

@@ -1,4 +1,4 @@
--- `interrupt::unless` meets its contract.
+-- `interrupt::unless` meets its contract. Answers and no attribute, which cannot spell ◌unless◌.
 use Rattle.laws.specs.Cases.{cases}
 use Rattle.interrupt.specs.Interrupt.{◌unless◌}
 use Rattle.interrupt.proofs.unless.Goals as goal

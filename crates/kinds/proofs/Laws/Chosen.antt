@@ -1,6 +1,7 @@
 -- Which step chooses the part, and what is left of a part to whose UFm channels nobody ever answered.
 use Rattle.std.specs.Prelude.{ℕ, zero, suc, Bool, true, false, List, ◌≡◌, refl, length}
-use Rattle.std.proofs.Common.{sym, ◌∙◌, ap, arith}
+use Rattle.std.proofs.Common.{sym, ◌∙◌, ap, arith, ltb, ⊎_elim}
+use Rattle.std.proofs.lemmas.Bool.{cases_Bool}
 use Rattle.laws.specs.Cases.{pick_holds, false_not_true, both}
 use Rattle.rules.specs.declared.parts.Device.{Device}
 use Rattle.rules.specs.declared.parts.Kind.TheVariants.{Fm, Ufm}
@@ -11,7 +12,7 @@ use Rattle.steps.specs.declared.map.Step.TheVariants.{Write, Read, Wire, Trigger
 use Rattle.steps.specs.declared.map.Target.{Target}
 use Rattle.steps.specs.declared.map.Target.TheVariants.{One, All}
 use Rattle.steps.specs.declared.map.Wide.TheVariants.{CtrlWrite, CtrlRead, AllTrigger, AllReset, Beyond}
-use Rattle.steps.specs.Map.{write_target, read_target, wire_target, target_of}
+use Rattle.steps.specs.Map.{channel_at, write_target, read_target, wire_target, target_of}
 use Rattle.steps.proofs.Laws.Keys.{left_of_lem}
 use Rattle.head.specs.Head.{kind_of}
 use Rattle.channel.proofs.Laws.Straps.{fresh_unanswered}
@@ -37,9 +38,9 @@ resets (All Beyond) = false
 
 reset_target : (a : Step) → resets (target_of a) ≡ is_reset a
 unfolding target_of write_target read_target wire_target
-reset_target (Write a v) = pick_holds (λ (t : Target). resets t ≡ false) _ (λ _. refl) (λ _. refl)
-reset_target (Read a) = pick_holds (λ (t : Target). resets t ≡ false) _ (λ _. refl) (λ _. refl)
-reset_target (Wire c e) = pick_holds (λ (t : Target). resets t ≡ false) _ (λ _. refl) (λ _. refl)
+reset_target (Write a v) = ⊎_elim (λ e. rw e refl) (λ e. rw e refl) (cases_Bool (ltb (channel_at a) 3))
+reset_target (Read a) = ⊎_elim (λ e. rw e refl) (λ e. rw e refl) (cases_Bool (ltb (channel_at a) 3))
+reset_target (Wire c e) = ⊎_elim (λ e. rw e refl) (λ e. rw e refl) (cases_Bool (ltb c 3))
 reset_target (Trigger edge) = refl
 reset_target (Reset d) = refl
 

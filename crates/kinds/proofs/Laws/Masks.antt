@@ -1,9 +1,8 @@
 -- A step of one channel with another INTMSK: it does the same, and leaves that INTMSK; where the two differ in bits that are not heeded.
-use Rattle.std.specs.Prelude.{ℕ, ◌/◌, ◌%◌, Bool, true, List, [], ◌≡◌, eqb, ltb, Option, Some, None}
+use Rattle.std.specs.Prelude.{ℕ, ◌/◌, ◌%◌, Bool, true, List, [], ◌≡◌, eqb, ltb, Option, Some, None, if◌then◌else◌}
 use Rattle.std.proofs.Math.Bool.{false}
 use Rattle.std.proofs.Math.Path.{refl, ap}
 use Rattle.std.proofs.Common.{sym, ◌∙◌, arith}
-use Rattle.laws.specs.Pick.{when◌then◌else◌}
 use Rattle.laws.specs.Cases.{false_not_true}
 use Rattle.rules.specs.declared.parts.Kind.{Kind}
 use Rattle.rules.specs.declared.parts.Kind.TheVariants.{Fm, Ufm}
@@ -58,8 +57,7 @@ abbrev re_stepped : ℕ → Stepped → Stepped
 re_stepped n r = record { channel = remasked n r.channel; answer = r.answer }
 
 -- either way of a test
-pub either : {A B : Type 0} (R : A → B → Type 0) (b : Bool) {x u : A} {y v : B} → R x y → R u v → R (when b then x else u) (when b then y else v)
-unfolding when◌then◌else◌
+pub either : {A B : Type 0} (R : A → B → Type 0) (b : Bool) {x u : A} {y v : B} → R x y → R u v → R (if b then x else u) (if b then y else v)
 either R true p q = p
 either R false p q = q
 

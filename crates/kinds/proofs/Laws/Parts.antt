@@ -9,7 +9,7 @@ use Rattle.rules.specs.Registers.{active_of}
 use Rattle.rules.specs.declared.wires.Edge.{Edge}
 use Rattle.interrupt.specs.Interrupt.{be_after, pending_of}
 use Rattle.interrupt.proofs.Sentence.{unheeded}
-use Rattle.steps.specs.declared.answer.Act.{Act}
+use Rattle.rules.specs.declared.wires.Action.{Action}
 use Rattle.steps.specs.declared.map.Ctrl.{Ctrl}
 use Rattle.steps.specs.declared.map.Ctrl.TheVariants.{Ctrlstatus, Ctrlintmsk, Reserved, DeviceId, Ctrlpreset, Nothing, Ctrlrdy}
 use Rattle.steps.specs.declared.map.Op.{Op}
@@ -92,7 +92,7 @@ edge_acts : (edge : Edge) (l k : List Channel) → AllAlike l k → map (edge_ac
 edge_acts edge [] [] a = refl
 edge_acts edge [] (y ∷ k) a = absurd a
 edge_acts edge (x ∷ l) [] a = absurd a
-edge_acts edge (x ∷ l) (y ∷ k) a = rw (edge_alike x y a.0 edge).action (ap (λ (t : List Act). edge_act edge x ∷ t) (edge_acts edge l k a.1))
+edge_acts edge (x ∷ l) (y ∷ k) a = rw (edge_alike x y a.0 edge).action (ap (λ (t : List Action). edge_act edge x ∷ t) (edge_acts edge l k a.1))
 
 -- ---- the same outcome of a step of the part
 pub record Same (readback : Bool) (r q : PartStepped) : Type 0 where
@@ -184,7 +184,7 @@ module _ (p q : Part) (a : AlikeParts p q) where
   }
 
   -- the part as it is, with an answer
-  plain_same : (n v w : ℕ) (l : List Act) → w ≡ v
+  plain_same : (n v w : ℕ) (l : List Action) → w ≡ v
       → Same false (record { part = p; answer = record { number = n; value = v; actions = l } }) (record { part = q; answer = record { number = n; value = w; actions = l } })
   plain_same n v w l e = record { parts = a; answer = record { number = refl; actions = refl; value = λ _. e } }
 

@@ -1,9 +1,8 @@
 -- A machine whose channels keep apart: the laws of one step beside another, and the theorem that follows from them.
-use Rattle.std.specs.Prelude.{ℕ, Bool, true, false, List, [], ◌∷◌, ◌++◌, ◌≡◌, eqb}
+use Rattle.std.specs.Prelude.{ℕ, Bool, true, false, List, [], ◌∷◌, ◌++◌, ◌≡◌, eqb, if◌then◌else◌}
 use Rattle.std.proofs.Common.{append_assoc, append-nil, ◌∙◌, eqb-true}
 use Rattle.std.proofs.Math.Path.{refl, sym, ap}
 use Rattle.std.proofs.lemmas.Bool.{eqb-false}
-use Rattle.laws.specs.Pick.{when◌then◌else◌}
 use Rattle.laws.specs.Lists.{All}
 use Rattle.mixes.specs.Mix.{Mix, Machine, ends, log, only}
 use Rattle.mixes.specs.Mix.Mix.{done, first, second, third}
@@ -27,11 +26,10 @@ module _ {S Step Ans : Type 0} where
 
 -- of a log, an entry that concerns the channel asked for
 abbrev keep : {A : Type 0} → Bool → A → List A → List A
-keep b a l = when b then a ∷ l else l
+keep b a l = if b then a ∷ l else l
 
 -- two kept elements change places, unless both are kept
 keep_swap : {A : Type 0} (p q : Bool) (x y : A) (l : List A) → (p ≡ true → q ≡ true → ⊥) → keep p x (keep q y l) ≡ keep q y (keep p x l)
-unfolding when◌then◌else◌
 keep_swap true true x y l h = absurd (h refl refl)
 keep_swap true false x y l h = refl
 keep_swap false true x y l h = refl

@@ -1,7 +1,6 @@
 -- No order is left out: every list of steps of channels 0 to 2 is a mix of its own three lists.
-use Rattle.std.specs.Prelude.{ℕ, zero, suc, ◌<◌, List, [], ◌∷◌, eqb}
+use Rattle.std.specs.Prelude.{ℕ, zero, suc, ◌<◌, List, [], ◌∷◌, eqb, if◌then◌else◌}
 use Rattle.std.proofs.Common.{not-suc-le-zero, le_of_suc-le-suc, eqb-true}
-use Rattle.laws.specs.Pick.{when◌then◌else◌}
 use Rattle.laws.specs.Cases.{pick_holds}
 use Rattle.laws.specs.Lists.{All}
 use Rattle.mixes.specs.Mix.{Mix, Machine, OfSome, steps_of}
@@ -10,8 +9,7 @@ use Rattle.mixes.proofs.Laws.Apart.{StepOf}
 
 -- one element more, of channel c
 more : {A : Type 0} (a : A) (k l n m : List A) (c : ℕ) → c < 3 → Mix A k l n m
-    → Mix A (when eqb c 0 then a ∷ k else k) (when eqb c 1 then a ∷ l else l) (when eqb c 2 then a ∷ n else n) (a ∷ m)
-unfolding when◌then◌else◌
+    → Mix A (if eqb c 0 then a ∷ k else k) (if eqb c 1 then a ∷ l else l) (if eqb c 2 then a ∷ n else n) (a ∷ m)
 more a k l n m zero h t = first t
 more a k l n m (suc zero) h t = second t
 more a k l n m (suc (suc zero)) h t = third t

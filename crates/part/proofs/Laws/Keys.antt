@@ -1,9 +1,8 @@
 -- What is left of a part's channels where a write forgets every key but its own.
-use Rattle.std.specs.Prelude.{ℕ, zero, suc, ◌<◌, ◌≤◌, false, List, [], ◌∷◌, map, ◌≡◌, refl, eqb, length, get_or, set}
+use Rattle.std.specs.Prelude.{ℕ, zero, suc, ◌<◌, ◌≤◌, false, List, [], ◌∷◌, map, ◌≡◌, refl, eqb, length, get_or, set, if◌then◌else◌}
 use Rattle.std.proofs.Common.{sym, ◌∙◌, ap, arith, eq-eqb, ne_eqb, length-set, get_or-set_other}
 use Rattle.std.proofs.lemmas.List.{length-map, set-set, set_comm}
 use Rattle.std.proofs.Math.ListN.{get_or-map}
-use Rattle.laws.specs.Pick.{when◌then◌else◌}
 use Rattle.laws.specs.Cases.{pick_true, pick-false}
 use Rattle.channel.specs.declared.state.Channel.{Channel}
 use Rattle.part.specs.declared.state.Part.{Part}
@@ -57,10 +56,10 @@ module _ (p : Part) (c i : ℕ) (l : List Channel) (a : 3 ≤ i) (b : i ≤ 3) (
 
   pub own_left : c ≡ 3 → record { channels = l; be = p.be; mask = p.mask; key = p.key } ≡ forgotten p c
   own_left h =
-      let key : (when eqb c 3 then p.key else false) ≡ p.key = sym (pick_true _ _ _ _ (eq-eqb c 3 h) refl) in
+      let key : (if eqb c 3 then p.key else false) ≡ p.key = sym (pick_true _ _ _ _ (eq-eqb c 3 h) refl) in
       rw (channels_left, key)
 
   pub none_left : (c ≡ 3 → ⊥) → record { channels = l; be = p.be; mask = p.mask; key = false } ≡ forgotten p c
   none_left h =
-      let key : (when eqb c 3 then p.key else false) ≡ false = sym (pick-false _ _ _ _ (ne_eqb c 3 h) refl) in
+      let key : (if eqb c 3 then p.key else false) ≡ false = sym (pick-false _ _ _ _ (ne_eqb c 3 h) refl) in
       rw (channels_left, key)

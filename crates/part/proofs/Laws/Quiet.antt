@@ -1,9 +1,8 @@
 -- AN EDGE THAT NO CHANNEL WAITS FOR DOES NOTHING, and where no key is pending none is forgotten.
-use Rattle.std.specs.Prelude.{ℕ, Bool, true, false, List, [], ◌∷◌, map, ◌≡◌, refl, eqb, length, get_or, set}
+use Rattle.std.specs.Prelude.{ℕ, Bool, true, false, List, [], ◌∷◌, map, ◌≡◌, refl, eqb, length, get_or, set, if◌then◌else◌}
 use Rattle.std.proofs.Common.{sym, ◌∙◌, ap, subst, arith}
 use Rattle.std.proofs.lemmas.Bool.{not-true}
 use Rattle.std.proofs.lemmas.List.{set-get_or}
-use Rattle.laws.specs.Pick.{when◌then◌else◌}
 use Rattle.laws.specs.Cases.{past, pick_holds, false_not_true}
 use Rattle.rules.specs.Numbers.{done}
 use Rattle.rules.specs.declared.wires.Edge.{Edge}
@@ -33,12 +32,11 @@ three_of d (a ∷ b ∷ c ∷ e ∷ l) h = absurd (let k : length (a ∷ b ∷ c
 
 -- an edge does nothing to a channel with TE 0
 edge_unmoved : (c : Channel) (edge : Edge) → c.head.regs.te ≡ false → triggered c edge ≡ on c (plain c.head)
-unfolding triggered edge_beat beaten when◌then◌else◌
+unfolding triggered edge_beat beaten
 edge_unmoved c edge e = rw e
 
 -- no key is pending
-none : (b x : Bool) → (when b then true else x) ≡ false → (b ≡ false) × (x ≡ false)
-unfolding when◌then◌else◌
+none : (b x : Bool) → (if b then true else x) ≡ false → (b ≡ false) × (x ≡ false)
 none true x e = absurd (let z = false_not_true (sym e) in omega (arith, z))
 none false x e = (refl, e)
 
@@ -48,7 +46,7 @@ keyless_same c e = ap (λ (b : Bool). with_head c (head_keyed c.head b)) (sym e)
 module _ (p : Part) (three : length p.channels ≡ 3) where
   -- nor to a part none of whose channels has TE 1
   pub unarmed_unmoved : (edge : Edge) → unarmed_of p ≡ true → trigger_step p edge ≡ told p done 0 quiet
-  unfolding unarmed_of trigger_step be_after when◌then◌else◌
+  unfolding unarmed_of trigger_step be_after
   unarmed_unmoved edge e =
       let all = three_of blank p.channels three in
       let a = past (chan p 0).head.regs.te _ e in
@@ -68,7 +66,7 @@ module _ (p : Part) (three : length p.channels ≡ 3) where
         answer = record {
           number = done;
           value = 0;
-          actions = record { action = (x i).answer.action } ∷ record { action = (y i).answer.action } ∷ record { action = (z i).answer.action } ∷ [];
+          actions = (x i).answer.action ∷ (y i).answer.action ∷ (z i).answer.action ∷ [];
         };
       })
 
@@ -85,7 +83,7 @@ module _ (p : Part) (three : length p.channels ≡ 3) where
       let a = none (chan p 0).head.key _ e in
       let b = none (chan p 1).head.key _ a.1 in
       let d = none (chan p 2).head.key _ b.1 in
-      let key : (when eqb c 3 then p.key else false) ≡ p.key = pick_holds (λ (x : Bool). x ≡ p.key) (eqb c 3) (λ _. refl) (λ _. sym d.1) in
+      let key : (if eqb c 3 then p.key else false) ≡ p.key = pick_holds (λ (x : Bool). x ≡ p.key) (eqb c 3) (λ _. refl) (λ _. sym d.1) in
       rw (but_same c a.0 b.0 d.0, key)
 
   forgets_none : keyed_of p ≡ false → (t : Target) → forgetting t p ≡ p
@@ -94,10 +92,10 @@ module _ (p : Part) (three : length p.channels ≡ 3) where
 
   -- a step forgets no key where it may forget none
   pub none_asked : (t : Target) → may_forget p t ≡ false → forgetting t p ≡ p
-  unfolding forgetting when◌then◌else◌
+  unfolding forgetting
   none_asked (All t) e = forgets_none e (All t)
   none_asked (One op c) e = by_writing (op_writes op) refl e
     where
-      by_writing : (b : Bool) → op_writes op ≡ b → (when b then keyed_of p else false) ≡ false → forgetting (One op c) p ≡ p
+      by_writing : (b : Bool) → op_writes op ≡ b → (if b then keyed_of p else false) ≡ false → forgetting (One op c) p ≡ p
       by_writing true w k = forgets_none k (One op c)
       by_writing false w k = rw w

@@ -1,7 +1,6 @@
 -- What a part in range says of each of its channels, and a step that no. 9 does not refuse.
 use Rattle.std.specs.Prelude.{ℕ, zero, suc, true, List, [], ◌∷◌, ◌≡◌, refl, length, get_or}
 use Rattle.std.proofs.Common.{eqb-true, eq-eqb}
-use Rattle.laws.specs.Pick.{when◌then◌else◌}
 use Rattle.laws.specs.Cases.{both, with}
 use Rattle.bounds.specs.Range.{pointers_in, registers_in, counting_of, ended_in, blank_of, recorded_in, walk_in, frame_in}
 use Rattle.steps.specs.declared.map.Step.{Step}
@@ -20,7 +19,7 @@ channels_of p e = (both _ _ e).0
 
 -- what stands past the third channel is in range too, so that a channel's number need not be below 3
 blank_in : in_range blank ≡ true
-unfolding in_range head_in pointers_in registers_in walk_in ended_in counting_of recorded_in blank_of frame_in when◌then◌else◌
+unfolding in_range head_in pointers_in registers_in walk_in ended_in counting_of recorded_in blank_of frame_in
 blank_in = refl
 
 channel_in_lem : (l : List Channel) (c : ℕ) → channels_in l ≡ true → in_range (get_or l c blank) ≡ true
@@ -44,9 +43,9 @@ whole-accepts p m w = with _ _ (eq-eqb _ _ w.whole) w.ranged
 -- ---- a step that no. 9 does not refuse
 module _ (p : Part) (m : List ℕ) (s : Step) where
   pub step_accepted : accepts p (length m) ≡ true → part_step p m s ≡ part_served p m (target_of s)
-  unfolding part_step when◌then◌else◌
+  unfolding part_step
   step_accepted e = rw e
 
   pub bytes_accepted : accepts p (length m) ≡ true → part_bytes p m s ≡ part_stored p m (target_of s)
-  unfolding part_bytes when◌then◌else◌
+  unfolding part_bytes
   bytes_accepted e = rw e

@@ -1,15 +1,14 @@
 -- What the steps of the code come to: one channel's in its place, and an edge channel by channel.
-use Rattle.std.specs.Prelude.{ℕ, suc, ◌+◌, ◌-◌, ◌*◌, ◌<◌, ◌≤◌, Bool, true, false, ◌&&◌, List, [], ◌∷◌, ◌≡◌, refl, length, set, take, drop}
+use Rattle.std.specs.Prelude.{ℕ, suc, ◌+◌, ◌-◌, ◌*◌, ◌<◌, ◌≤◌, Bool, true, false, ◌&&◌, List, [], ◌∷◌, ◌≡◌, refl, length, set, take, drop, if◌then◌else◌}
 use Rattle.std.specs.List.{list_all}
 use Rattle.std.proofs.Common.{sym, ◌∙◌, ap, arith}
 use Rattle.std.proofs.Math.Seq.{drop-cons}
 use lib.ListN.{drop_of_length-le}
 use borrow.Rule.Slice.PartMut.{put_mid}
-use Rattle.laws.specs.Pick.{when◌then◌else◌}
 use Rattle.rules.specs.Numbers.{buffer_size, done}
 use Rattle.rules.specs.declared.wires.Edge.{Edge}
 use Rattle.interrupt.specs.Interrupt.{be_after}
-use Rattle.steps.specs.declared.answer.Act.{Act}
+use Rattle.rules.specs.declared.wires.Action.{Action}
 use Rattle.steps.specs.declared.map.Op.{Op}
 use Rattle.steps.specs.Answer.{quiet}
 use Rattle.head.specs.declared.state.Answer.{Answer}
@@ -31,11 +30,11 @@ use Rattle.part.proofs.Laws.Range.{chan-in_range}
 
 -- each channel in range is all of them
 pub all_in : (l : List Channel) → list_all in_range l ≡ channels_in l
-unfolding channels_in when◌then◌else◌
+unfolding channels_in
 all_in [] = refl
 all_in (x ∷ l) = go (in_range x) (all_in l)
   where
-    go : (b : Bool) → list_all in_range l ≡ channels_in l → (b && list_all in_range l) ≡ (when b then channels_in l else false)
+    go : (b : Bool) → list_all in_range l ≡ channels_in l → (b && list_all in_range l) ≡ (if b then channels_in l else false)
     go true e = e
     go false e = refl
 
@@ -56,14 +55,14 @@ module _ (p : Part) (m : List ℕ) (c : ℕ) where
       (ap (λ (y : Served). one_told p c y.stepped) all, window_put c l m ∙ ap (λ (y : Served). put_window c y.bytes m) all)
 
 -- ---- an edge: q and these actions are the part p and no actions, after the edge reached the first i channels
-pub record Edged (edge : Edge) (p : Part) (i : ℕ) (q : Part) (acts : List Act) : Type 0 where
+pub record Edged (edge : Edge) (p : Part) (i : ℕ) (q : Part) (acts : List Action) : Type 0 where
   pub channels : q.channels ≡ put_first (edge_channel edge) i p.channels p.channels
   pub actions : acts ≡ put_first (edge_act edge) i p.channels quiet
   pub be : edge_be edge q.be (drop i p.channels) ≡ edge_be edge p.be p.channels
   pub mask : q.mask ≡ p.mask
   pub key : q.key ≡ p.key
 
-module _ (edge : Edge) (p : Part) (i : ℕ) (q : Part) (acts : List Act) (w : Edged edge p i q acts) where
+module _ (edge : Edge) (p : Part) (i : ℕ) (q : Part) (acts : List Action) (w : Edged edge p i q acts) where
   pub next_at : chan q i ≡ chan p i
   next_at = rw w.channels (next_first (edge_channel edge) i p.channels p.channels blank)
 
@@ -71,7 +70,7 @@ module _ (edge : Edge) (p : Part) (i : ℕ) (q : Part) (acts : List Act) (w : Ed
   next_in_range e = rw next_at (chan-in_range p i e)
 
   pub next_edged : i < length p.channels → (x : Channel) (a : Answer) → stepped x a ≡ triggered (chan q i) edge
-      → Edged edge p (suc i) (record { channels = set q.channels i x; be = be_after q.be a.number; mask = q.mask; key = q.key }) (set acts i (record { action = a.action }))
+      → Edged edge p (suc i) (record { channels = set q.channels i x; be = be_after q.be a.number; mask = q.mask; key = q.key }) (set acts i a.action)
   next_edged h x a e =
       let told = e ∙ ap (λ (y : Channel). triggered y edge) next_at in
       record {
@@ -83,7 +82,7 @@ module _ (edge : Edge) (p : Part) (i : ℕ) (q : Part) (acts : List Act) (w : Ed
       }
 
 -- and then all of them
-pub all_edged : (edge : Edge) (p q : Part) (acts : List Act) (i : ℕ) → 3 ≤ i → i ≤ 3 → length p.channels ≡ 3 → Edged edge p i q acts
+pub all_edged : (edge : Edge) (p q : Part) (acts : List Action) (i : ℕ) → 3 ≤ i → i ≤ 3 → length p.channels ≡ 3 → Edged edge p i q acts
     → given q (record { number = done; value = 0; actions = acts }) ≡ trigger_step p edge
 unfolding trigger_step
 all_edged edge p q acts i a b n w =

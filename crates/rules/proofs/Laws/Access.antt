@@ -1,7 +1,8 @@
 -- What an access that is not refused may rely on.
-use Rattle.std.specs.Prelude.{Bool, true, false, List, Option, Some, None, ◌≡◌, refl, ℕ, ◌<◌, ◌≤◌, ltb}
-use Rattle.std.proofs.Common.{sym, ◌∙◌, arith, ltb-true, ltb-false, lt-ltb, le-ltb}
-use Rattle.laws.specs.Cases.{not_refused, accepted, pick_true, pick-false, pick_holds}
+use Rattle.std.specs.Prelude.{Bool, true, false, List, Option, Some, None, ◌≡◌, refl, ℕ, ◌<◌, ◌≤◌, ltb, if◌then◌else◌}
+use Rattle.std.proofs.Common.{arith, ltb-true, ltb-false}
+use Rattle.laws.specs.Cases.{not_refused, accepted, pick_holds}
+use Rattle.std.specs.Bool.{then_some}
 use Rattle.rules.specs.declared.state.Phase.{Phase}
 use Rattle.rules.specs.Numbers.{buffer_size, done, locked, past_table, past_buffer, many_transactions}
 use Rattle.rules.specs.Registers.{active_of}
@@ -39,23 +40,14 @@ sel_open lens v e = let r = not_refused _ past_buffer _ (omega arith) e in (ltb-
 found : (lens : List ℕ) (at : ℕ) → Configured lens (spot_of lens at)
 unfolding spot_of configured_at
 found lens at =
-    pick_holds (Configured lens) _ (λ t. pick_holds (Configured lens) _ (λ u. (ltb-true at buffer_size t, ltb-true at (sum_of lens) u)) (λ _. tt)) (λ _. tt)
+    pick_holds (Configured lens) (ltb at buffer_size) (λ t. pick_holds (Configured lens) (configured_at lens at) {x = Some at} {y = None} (λ u. (ltb-true at buffer_size t, ltb-true at (sum_of lens) u)) (λ _. tt)) (λ _. tt)
 
-finds : (lens : List ℕ) (at : ℕ) (s : Option ℕ) → s ≡ spot_of lens at → (s ≡ spot_of lens at) × Configured lens s
+pub finds : (lens : List ℕ) (at : ℕ) (s : Option ℕ) → s ≡ spot_of lens at → (s ≡ spot_of lens at) × Configured lens s
 finds lens at s e = (e, rw e (found lens at))
 
--- the finder's three ways
-pub past_all : (lens : List ℕ) (at : ℕ) → buffer_size ≤ at → (None ≡ spot_of lens at) × Configured lens None
-unfolding spot_of
-past_all lens at h = finds lens at None (pick-false _ _ _ _ (le-ltb at buffer_size h) refl)
-
-pub is_place : (lens : List ℕ) (at : ℕ) (b : Bool) → at < buffer_size → b ≡ configured_at lens at → b ≡ true → (Some at ≡ spot_of lens at) × Configured lens (Some at)
-unfolding spot_of
-is_place lens at b h e t = finds lens at (Some at) (pick_true _ _ _ _ (lt-ltb at buffer_size h) (pick_true _ _ _ _ (sym e ∙ t) refl))
-
-pub no_place : (lens : List ℕ) (at : ℕ) (b : Bool) → at < buffer_size → b ≡ configured_at lens at → b ≡ false → (None ≡ spot_of lens at) × Configured lens None
-unfolding spot_of
-no_place lens at b h e t = finds lens at None (pick_true _ _ _ _ (lt-ltb at buffer_size h) (pick-false _ _ _ _ (sym e ∙ t) refl))
+pub then_some_if : (b : Bool) (at : ℕ) → then_some b at ≡ (if b then Some at else None)
+then_some_if true at = refl
+then_some_if false at = refl
 
 -- a place that is not refused is the one that was asked for
 found_at : (lens : List ℕ) (at : ℕ) → spot_refusal (spot_of lens at) ≡ 0 → spot_of lens at ≡ Some at

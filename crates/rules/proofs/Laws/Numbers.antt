@@ -1,7 +1,7 @@
--- A refusal has a number above 0, and of its own; and what a `?` says of the number that stands behind it.
-use Rattle.std.specs.Prelude.{ℕ, ◌<◌, Bool, true, false, List, [], ◌∷◌, Result, Ok, Err, ◌≡◌, refl, get_or}
+-- A refusal has a number above 0, and of its own; and the number of two outcomes one after another.
+use Rattle.std.specs.Prelude.{ℕ, ◌<◌, Bool, true, false, List, [], ◌∷◌, Result, Ok, Err, ◌≡◌, refl, get_or, if◌then◌else◌}
 use Rattle.std.proofs.Common.{sym, ◌∙◌, ap, arith}
-use Rattle.laws.specs.Pick.{when◌then◌else◌}
+use Rattle.std.specs.Result.{result_and}
 use Rattle.rules.specs.declared.numbers.Refusal.{Refusal}
 use Rattle.rules.specs.declared.numbers.Refusal.TheVariants.{Nowhere, ReadOnly, Locked, PastTable, PastBuffer, ManyTransactions, NotAwaited, Unreadable, OutOfRange, NotAFile, NoRoom}
 use Rattle.rules.specs.Numbers.{done, refusal_number, number_of}
@@ -52,20 +52,25 @@ by_number (Err NoRoom) = refl
 pub number_tells : (r s : Result (Unit {0}) Refusal) → number_of r ≡ number_of s → r ≡ s
 number_tells r s h = sym (by_number r) ∙ ap (λ (n : ℕ). get_or outcomes n (Ok tt)) h ∙ by_number s
 
+-- ---- one outcome after another: where the first refuses with number k it is told, else the second decides
+pub number_of_and : (r s : Result (Unit {0}) Refusal) (b : Bool) (k n : ℕ) → done < k → number_of r ≡ (if b then k else done) → number_of s ≡ n → number_of (result_and r s) ≡ (if b then k else n)
+number_of_and (Ok t) s true k n h p q = absurd (omega (arith, h, p))
+number_of_and (Ok t) s false k n h p q = q
+number_of_and (Err e) s true k n h p q = p
+number_of_and (Err e) s false k n h p q = absurd (let z = refusal_positive e in omega (arith, z, p))
+
 -- ---- a test that refuses with number k, before what else may refuse
-module _ (r : Result (Unit {0}) Refusal) (b : Bool) (k n : ℕ) (says : number_of r ≡ (when b then k else done)) where
-  pub test_refuses : (e : Refusal) → r ≡ Err e → refusal_number e ≡ (when b then k else n)
-  unfolding when◌then◌else◌
+module _ (r : Result (Unit {0}) Refusal) (b : Bool) (k n : ℕ) (says : number_of r ≡ (if b then k else done)) where
+  pub test_refuses : (e : Refusal) → r ≡ Err e → refusal_number e ≡ (if b then k else n)
   test_refuses e p = go b (rw p at says)
     where
-      go : (a : Bool) → refusal_number e ≡ (when a then k else done) → refusal_number e ≡ (when a then k else n)
+      go : (a : Bool) → refusal_number e ≡ (if a then k else done) → refusal_number e ≡ (if a then k else n)
       go true q = q
       go false q = absurd (let h = refusal_positive e in omega (arith, h, q))
 
-  pub test_passes : (t : Unit {0}) (m : ℕ) → done < k → r ≡ Ok t → m ≡ n → m ≡ (when b then k else n)
-  unfolding when◌then◌else◌
+  pub test_passes : (t : Unit {0}) (m : ℕ) → done < k → r ≡ Ok t → m ≡ n → m ≡ (if b then k else n)
   test_passes t m h p e = go b (rw p at says)
     where
-      go : (a : Bool) → done ≡ (when a then k else done) → m ≡ (when a then k else n)
+      go : (a : Bool) → done ≡ (if a then k else done) → m ≡ (if a then k else n)
       go true q = absurd (omega (arith, h, q))
       go false q = e

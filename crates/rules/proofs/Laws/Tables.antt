@@ -1,12 +1,11 @@
 -- The laws of the tables' definitions, one for each way that a loop goes on or ends; and what a frame that fits says of a place.
-use Rattle.std.specs.Prelude.{Bool, true, false, not, List, ◌≡◌, refl, ℕ, zero, suc, ◌+◌, ◌-◌, ◌<◌, ◌≤◌, eqb, leb, get_or, set, length, replicate}
+use Rattle.std.specs.Prelude.{Bool, true, false, not, List, ◌≡◌, refl, ℕ, zero, suc, ◌+◌, ◌-◌, ◌<◌, ◌≤◌, eqb, leb, get_or, set, length, replicate, if◌then◌else◌}
 use Rattle.std.proofs.Common.{sym, ◌∙◌, add-one, add-zero, add-suc, arith, eqb-true, le-leb, lt-ltb, le-ltb}
 use Rattle.std.proofs.lemmas.Bool.{not-false, not-true, eqb-false, lt-leb}
 use Rattle.std.proofs.lemmas.List.{length-replicate, take_all}
 use Rattle.std.proofs.lemmas.List.Edits.{sets, sets-eq, length-between, get_or-between}
 use Rattle.std.proofs.lemmas.Slice.{put_mid-paste}
 use borrow.Rule.Slice.PartMut.{put_mid, mid_of}
-use Rattle.laws.specs.Pick.{when◌then◌else◌}
 use Rattle.laws.specs.Cases.{left-more, left_none, pick_holds}
 use Rattle.rules.specs.declared.parts.Kind.{Kind}
 use Rattle.rules.specs.declared.parts.Kind.TheVariants.{Fm, Ufm}
@@ -43,11 +42,11 @@ none_longer n = go (eqb n 0) refl
     go false e = rw e (lt-leb n 0 (let h = eqb-false n 0 e in omega arith))
 
 up_to : (kind : Kind) (n : ℕ) → n < 256 → leb n (longest_skipped kind) ≡ read_skipped kind n
-unfolding longest_skipped read_skipped when◌then◌else◌
+unfolding longest_skipped read_skipped
 up_to Fm n h = none_longer n
 up_to Ufm n h = le-leb n 255 (omega arith)
 
-pub skips_of : (most sla len : ℕ) (r : Bool) → len < 256 → r ≡ (when reads_of sla then leb len most else false) → Skips most sla len r
+pub skips_of : (most sla len : ℕ) (r : Bool) → len < 256 → r ≡ (if reads_of sla then leb len most else false) → Skips most sla len r
 unfolding skipped_of
 skips_of most sla len r h e kind q = e ∙ rw (q, up_to kind len h)
 
@@ -57,11 +56,11 @@ unfolding sent_from
 sent_end c s l i n r e k h = let q : n ≡ i = omega arith in q ∙ (rw (left_none n i h) at e)
 
 pub sent-found : (c : Kind) (s l : List ℕ) (i n r : ℕ) (b : Bool) → first_sent c s l i n ≡ r → i < n → b ≡ skipped_of c (get_or s i 0) (get_or l (i + 1) 0) → not b ≡ true → i ≡ r
-unfolding sent_from when◌then◌else◌
+unfolding sent_from
 sent-found c s l i n r b e h p t = rw (left-more n i h, ← p, not-true b t) at e
 
 pub sent-more : (c : Kind) (s l : List ℕ) (i n r : ℕ) (b : Bool) → first_sent c s l i n ≡ r → i < n → b ≡ skipped_of c (get_or s i 0) (get_or l (i + 1) 0) → not b ≡ false → first_sent c s l (i + 1) n ≡ r
-unfolding sent_from when◌then◌else◌
+unfolding sent_from
 sent-more c s l i n r b e h p t = rw (left-more n i h, ← p, not-false b t) at e
 
 -- ---- marked: what is put in the place of a part of the list

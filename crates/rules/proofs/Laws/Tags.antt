@@ -1,7 +1,6 @@
 -- A tag is the event's whose own tag it is, and no other's.
-use Rattle.std.specs.Prelude.{ℕ, Bool, true, false, List, [], ◌∷◌, Option, Some, None, ◌≡◌, refl}
-use Rattle.std.proofs.Common.{sym, ap₂, arith, eqb-true, eq-eqb, ne_eqb}
-use Rattle.laws.specs.Pick.{when◌then◌else◌}
+use Rattle.std.specs.Prelude.{ℕ, Bool, true, false, List, [], ◌∷◌, Option, Some, None, ◌≡◌, refl, if◌then◌else◌}
+use Rattle.std.proofs.Common.{sym, ap₂, arith, eqb-true, eq-eqb}
 use Rattle.laws.specs.Cases.{both}
 use Rattle.rules.specs.declared.wires.Event.{Event}
 use Rattle.rules.specs.declared.wires.Event.TheVariants.{Ninth, Byte, Tick, Stop, Sda, Scl, Ill, Sent}
@@ -21,8 +20,7 @@ none_known e h = cc
 known_known : (x e : Event) → Some x ≡ Some e → x ≡ e
 known_known x e h = cc
 
-chosen : (b : Bool) (t : Tag) (x e : Event) (r : Option Event) → (b ≡ true → event_tag x ≡ t) → (r ≡ Some e → event_tag e ≡ t) → (when b then Some x else r) ≡ Some e → event_tag e ≡ t
-unfolding when◌then◌else◌
+chosen : (b : Bool) (t : Tag) (x e : Event) (r : Option Event) → (b ≡ true → event_tag x ≡ t) → (r ≡ Some e → event_tag e ≡ t) → (if b then Some x else r) ≡ Some e → event_tag e ≡ t
 chosen true t x e r f g h = rw (← known_known x e h) (f refl)
 chosen false t x e r f g h = g h
 
@@ -37,7 +35,7 @@ event_only t e h = among-only t (events_with t.value) e h
 -- ---- its own
 
 pub event_back : (e : Event) → event_of (event_tag e) ≡ Some e
-unfolding known_as same_tag when◌then◌else◌
+unfolding known_as same_tag
 event_back (Ninth Low) = refl
 event_back (Ninth High) = refl
 event_back (Byte b) = rw (eq-eqb b b refl) refl
@@ -47,9 +45,3 @@ event_back Sda = refl
 event_back Scl = refl
 event_back Ill = refl
 event_back Sent = refl
-
--- ---- for `event_of`: another kind than an event's
-
-pub another_kind : (t : Tag) (e : Event) (rest r : Option Event) → (t.kind ≡ (event_tag e).kind → ⊥) → r ≡ rest → r ≡ known_as t e rest
-unfolding known_as same_tag when◌then◌else◌
-another_kind t e rest r n h = rw (ne_eqb t.kind (event_tag e).kind n) h

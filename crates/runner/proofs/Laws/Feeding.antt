@@ -9,7 +9,6 @@ use Rattle.std.proofs.Math.ListN.{length, length-drop}
 use Rattle.std.proofs.Math.Seq.{drop-drop, length-sets}
 use Rattle.laws.specs.Cases.{pick_holds}
 use Rattle.std.proofs.Math.Nat.{min-eq_left}
-use Rattle.laws.specs.Pick.{when◌then◌else◌}
 use Rattle.steps.specs.declared.answer.PartAnswer.{PartAnswer}
 use Rattle.part.specs.declared.state.Part.{Part}
 use Rattle.part.specs.Registers.{interrupt_of}
@@ -29,7 +28,7 @@ use Rattle.runner.proofs.Laws.Lines.{end_after}
 
 -- ---- the next line of some bytes
 pub next_line : (line l : List ℕ) → first_lf l < length l → ended_lines line l ≡ (line ++ take (first_lf l) l) ∷ ended_lines [] (drop (first_lf l + 1) l)
-unfolding ended_lines when◌then◌else◌
+unfolding ended_lines
 next_line line [] h = absurd (omega (arith, h))
 next_line line (b ∷ l) h = cases (eqb b 10) refl (λ i. next_line (line ++ (b ∷ [])) l i)
   where
@@ -44,7 +43,7 @@ next_line line (b ∷ l) h = cases (eqb b 10) refl (λ i. next_line (line ++ (b 
         rw (e, t, d) (f (omega (arith, rw e at h)) ∙ ap (λ (x : List ℕ). x ∷ ended_lines [] (drop (first_lf l + 1) l)) (append_assoc line (b ∷ []) (take (first_lf l) l)))
 
 pub next_rest : (line l : List ℕ) → first_lf l < length l → rest_of line l ≡ rest_of [] (drop (first_lf l + 1) l)
-unfolding rest_of when◌then◌else◌
+unfolding rest_of
 next_rest line [] h = absurd (omega (arith, h))
 next_rest line (b ∷ l) h = cases (eqb b 10) refl (λ i. next_rest (line ++ (b ∷ [])) l i)
   where
@@ -57,7 +56,7 @@ next_rest line (b ∷ l) h = cases (eqb b 10) refl (λ i. next_rest (line ++ (b 
         rw (e, d) (f (omega (arith, rw e at h)))
 
 pub no_line-ends : (line l : List ℕ) → length l ≤ first_lf l → ended_lines line l ≡ []
-unfolding ended_lines when◌then◌else◌
+unfolding ended_lines
 no_line-ends line [] h = refl
 no_line-ends line (b ∷ l) h = cases (eqb b 10) refl (λ i. no_line-ends (line ++ (b ∷ [])) l i)
   where
@@ -66,7 +65,7 @@ no_line-ends line (b ∷ l) h = cases (eqb b 10) refl (λ i. no_line-ends (line 
     cases false e f = rw e (f (omega (arith, rw e at h)))
 
 pub all_rest : (line l : List ℕ) → length l ≤ first_lf l → rest_of line l ≡ line ++ l
-unfolding rest_of when◌then◌else◌
+unfolding rest_of
 all_rest line [] h = sym (append-nil line)
 all_rest line (b ∷ l) h = cases (eqb b 10) refl (λ i. all_rest (line ++ (b ∷ [])) l i)
   where
@@ -153,7 +152,7 @@ module _ (block : List ℕ) (s₀ : Course) (m₀ o₀ : List ℕ) (s : Course) 
       → step ≡ number_after s.step → int ≡ interrupt_of p
       → Put o s.at (text_if (roomy (length o) s.at) (answer_line step answer int)) at o' → at ≤ s.at + answer_room → end' ≡ line_end block (end + 1)
       → Going block s₀ m₀ o₀ (record { part = p; step = step; from = end + 1; at = at }) m' o' end'
-  unfolding bytes desk_at after_all replies_to after_one reply_to text_if when◌then◌else◌
+  unfolding bytes desk_at after_all replies_to after_one reply_to text_if
   going_on_lem answer p int m' o' step at end' i replied left n level put fits e =
       let d = desk_of s.part m s.step in
       let d' = desk_of p m' step in

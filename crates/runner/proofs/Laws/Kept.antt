@@ -6,7 +6,6 @@ use Rattle.std.proofs.Math.Path.{refl, ap}
 use Rattle.std.proofs.Common.{◌∙◌, arith, length-take, take_all}
 use Rattle.std.proofs.lemmas.List.Edits.{sets-eq}
 use Rattle.std.proofs.Math.Seq.{take-append_seam}
-use Rattle.laws.specs.Pick.{when◌then◌else◌}
 use Rattle.script.specs.Grammar.{line_room}
 use Rattle.answers.specs.Answer.{Put}
 use Rattle.runner.specs.Text.{ended_lines, rest_of, last_line, Desk, Sitting, after_one, after_all, replies_to, fed, said, last_said}
@@ -20,7 +19,7 @@ first_twice : (l : List ℕ) → take line_room (take line_room l) ≡ take line
 first_twice l = let n = length-take line_room l in take_all line_room (take line_room l) (omega (arith, n))
 
 same_rest : (k l rest : List ℕ) → take line_room k ≡ take line_room l → take line_room (rest_of k rest) ≡ take line_room (rest_of l rest)
-unfolding rest_of when◌then◌else◌
+unfolding rest_of
 same_rest k l [] h = h
 same_rest k l (b ∷ rest) h = cases (eqb b 10) refl (same_rest (k ++ (b ∷ [])) (l ++ (b ∷ [])) rest (first_more k l b h))
   where
@@ -53,7 +52,6 @@ module _ (s : Sitting) where
 
 -- ---- a line that has begun has no LF
 more_unended : (k : List ℕ) (b : ℕ) → length k ≤ first_lf k → eqb b 10 ≡ false → length (k ++ (b ∷ [])) ≤ first_lf (k ++ (b ∷ []))
-unfolding when◌then◌else◌
 more_unended [] b h e = rw e (omega arith)
 more_unended (x ∷ k) b h e = cases (eqb x 10) refl (λ i. more_unended k b i e)
   where
@@ -63,7 +61,7 @@ more_unended (x ∷ k) b h e = cases (eqb x 10) refl (λ i. more_unended k b i e
     cases false d f = rw d (let g = f (omega (arith, rw d at h)) in omega (arith, g))
 
 pub rest_unended : (line l : List ℕ) → length line ≤ first_lf line → length (rest_of line l) ≤ first_lf (rest_of line l)
-unfolding rest_of when◌then◌else◌
+unfolding rest_of
 rest_unended line [] h = h
 rest_unended line (b ∷ l) h = cases (eqb b 10) refl (rest_unended [] l (omega arith)) (λ i. rest_unended (line ++ (b ∷ [])) l i)
   where
@@ -74,7 +72,6 @@ rest_unended line (b ∷ l) h = cases (eqb b 10) refl (rest_unended [] l (omega 
     cases false e f g = rw e (g (more_unended line b h e))
 
 pub take_unended : (n : ℕ) (l : List ℕ) → length l ≤ first_lf l → length (take n l) ≤ first_lf (take n l)
-unfolding when◌then◌else◌
 take_unended zero l h = omega arith
 take_unended (suc n) [] h = omega arith
 take_unended (suc n) (x ∷ l) h = cases (eqb x 10) refl (λ i. take_unended n l i)
@@ -104,7 +101,7 @@ module _ (d : Desk) (k l : List ℕ) (h : length k ≤ first_lf k) where
 
 -- ---- the end of the input is like an LF, if the line has a byte
 pub end_said : (d : Desk) (k : List ℕ) → 0 < length k → said (record { desk = d; line = k }) (10 ∷ []) ≡ last_said (record { desk = d; line = k })
-unfolding said last_said ended_lines when◌then◌else◌
+unfolding said last_said ended_lines
 end_said d [] h = absurd (omega (arith, h))
 end_said d (b ∷ k) h = refl
 

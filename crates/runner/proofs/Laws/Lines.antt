@@ -1,5 +1,5 @@
 -- Where a line ends, and that one which came in pieces is read as the whole line is.
-use Rattle.std.specs.Prelude.{ℕ, ◌+◌, ◌-◌, ◌<◌, ◌≤◌, Bool, true, false, List, [], ◌∷◌, ◌++◌, ◌≡◌, refl, eqb, leb, ltb, length, min, take, drop, set, cond, Option, Some, None}
+use Rattle.std.specs.Prelude.{ℕ, ◌+◌, ◌-◌, ◌<◌, ◌≤◌, Bool, true, false, List, [], ◌∷◌, ◌++◌, ◌≡◌, refl, eqb, leb, ltb, length, min, take, drop, set, cond, Option, Some, None, if◌then◌else◌}
 use Rattle.std.proofs.Common.{append-nil, append_assoc, sym, ◌∙◌, subst, ltb-true, ltb-false, leb-true, leb-false, length-append, length-take, length-set, drop-drop, length-take-le, take_all, take-suc-set}
 use Rattle.std.proofs.Math.Path.{ap}
 use Rattle.std.proofs.Math.Numerals.{add-one}
@@ -10,7 +10,6 @@ use Rattle.std.proofs.lemmas.List.Edits.{sets, sets-eq}
 use Rattle.std.proofs.Math.Seq.{drop-append_seam, take-append-add, take-append_seam, take-nil}
 use Rattle.std.specs.List.{position_or_len}
 use Rattle.std.proofs.lemmas.List.Recursion.{is_position_or_len}
-use Rattle.laws.specs.Pick.{when◌then◌else◌}
 use Rattle.laws.specs.Cases.{pick_holds}
 use Rattle.script.specs.Grammar.{line_room, line_of}
 use Rattle.script.proofs.Laws.Grammar.{first_bytes_lem}
@@ -33,10 +32,9 @@ module _ (block : List ℕ) (from : ℕ) where
 
 -- an LF that `position` finds is the first, and where it finds none the bytes have none
 first_is : (l : List ℕ) → first_lf l ≡ position_or_len (λ (b : ℕ). eqb b 10) l
-unfolding when◌then◌else◌
 first_is = is_position_or_len first_lf (λ (b : ℕ). eqb b 10) refl (λ x l. cases (eqb x 10) (first_lf l))
   where
-    cases : (t : Bool) (n : ℕ) → (when t then 0 else n + 1) ≡ cond t 0 (1 + n)
+    cases : (t : Bool) (n : ℕ) → (if t then 0 else n + 1) ≡ cond t 0 (1 + n)
     cases true n = refl
     cases false n = omega arith
 

@@ -2,7 +2,6 @@
 use Rattle.std.specs.Prelude.{ℕ, ◌<◌, false, List, ◌≡◌, Option, Some, None}
 use Rattle.std.proofs.Math.Path.{refl}
 use Rattle.std.proofs.Common.{◌∙◌, sym, ap, arith}
-use Rattle.laws.specs.Pick.{when◌then◌else◌}
 use Rattle.steps.specs.Facts.{InPart}
 use Rattle.part.specs.Step.{all_served, all_stored, target_served, target_stored, forgetting, part_served, part_stored, part_step}
 use Rattle.part.specs.declared.state.Part.{Part}
@@ -63,12 +62,12 @@ module _ (s : State) (g : Accepted s) where
   line_keeps None = g
 
   line_after : (l : Option Step) → Served l
-  unfolding part_served part_stored target_served target_stored forgetting all_served all_stored when◌then◌else◌
+  unfolding part_served part_stored target_served target_stored forgetting all_served all_stored
   line_after (Some a) = part_follows.after s a g
   line_after None = refl
 
   line_actions : (l : Option Step) → (line_answer s l).actions ≡ (part_served s.part s.memory (line_target l)).answer.actions
-  unfolding part_served target_served forgetting all_served when◌then◌else◌
+  unfolding part_served target_served forgetting all_served
   line_actions (Some a) = part_follows.actions s a g
   line_actions None = refl
 

@@ -5,12 +5,11 @@ use Rattle.script.specs.Grammar.{line_of}
 use Rattle.steps.specs.declared.map.Step.{Step}
 use Rattle.answers.specs.Answer.{header}
 use Rattle.runner.specs.Run.{after_line}
-use Rattle.laws.specs.Pick.{when◌then◌else◌}
 use Rattle.runner.specs.Text.{ended_lines, rest_of, Desk, after_one, reply_to, after_all, replies_to, Sitting, fed, said, number_after, last_line, reset, output_of, last_said, opening}
 
 -- ---- lines
 ended_split : (line a b : List ℕ) → ended_lines line (a ++ b) ≡ ended_lines line a ++ ended_lines (rest_of line a) b
-unfolding ended_lines rest_of when◌then◌else◌
+unfolding ended_lines rest_of
 ended_split line [] b = refl
 ended_split line (x ∷ a) b = cases (eqb x 10) refl (ended_split [] a b) (ended_split (line ++ (x ∷ [])) a b)
   where
@@ -21,7 +20,7 @@ ended_split line (x ∷ a) b = cases (eqb x 10) refl (ended_split [] a b) (ended
     cases false e h i = rw e i
 
 rest_split : (line a b : List ℕ) → rest_of line (a ++ b) ≡ rest_of (rest_of line a) b
-unfolding rest_of when◌then◌else◌
+unfolding rest_of
 rest_split line [] b = refl
 rest_split line (x ∷ a) b = cases (eqb x 10) refl (rest_split [] a b) (rest_split (line ++ (x ∷ [])) a b)
   where
@@ -72,7 +71,7 @@ alike_line : (k l : List ℕ) → Alike k l → line_of k ≡ line_of l
 alike_line k l h = ap line_of (sym (append-nil k)) ∙ h [] ∙ ap line_of (append-nil l)
 
 pub same_replies : (d : Desk) (k l rest : List ℕ) → Alike k l → replies_to d (ended_lines k rest) ≡ replies_to d (ended_lines l rest)
-unfolding replies_to ended_lines when◌then◌else◌ reply_to after_one
+unfolding replies_to ended_lines reply_to after_one
 same_replies d k l [] h = refl
 same_replies d k l (b ∷ rest) h = cases (eqb b 10) refl (same_replies d (k ++ (b ∷ [])) (l ++ (b ∷ [])) rest (alike_more k l b h))
   where
@@ -86,7 +85,7 @@ unfolding reply_to
 alike_reply d k l h = rw (alike_line k l h)
 
 pub same_after : (d : Desk) (k l rest : List ℕ) → Alike k l → after_all d (ended_lines k rest) ≡ after_all d (ended_lines l rest)
-unfolding after_all ended_lines when◌then◌else◌ after_one
+unfolding after_all ended_lines after_one
 same_after d k l [] h = refl
 same_after d k l (b ∷ rest) h = cases (eqb b 10) refl (same_after d (k ++ (b ∷ [])) (l ++ (b ∷ [])) rest (alike_more k l b h))
   where

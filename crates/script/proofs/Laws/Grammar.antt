@@ -1,12 +1,11 @@
 -- No line of `line_room` bytes or more can be read, so whoever keeps the first `line_room` bytes of a line reads it as it is.
 use Rattle.std.specs.Prelude.{Bool, true, false, List, [], ◌∷◌, ◌≡◌, refl, ℕ, suc, ◌≤◌, leb, ltb, length, take, None}
 use Rattle.std.proofs.Common.{sym, ◌∙◌, ap, arith, leb-true, leb-false, ltb-true, take_all, length-take-le}
-use Rattle.laws.specs.Pick.{when◌then◌else◌}
 use Rattle.laws.specs.Cases.{pick_holds}
 use Rattle.script.specs.Grammar.{line_room, suiting, in_form, fault_line, clock_line, event_line, edge_line, line_of}
 
 pub fit_length : (f l : List ℕ) → (length f ≡ length l → ⊥) → false ≡ in_form f l
-unfolding in_form when◌then◌else◌
+unfolding in_form
 fit_length [] [] h = absurd (h refl)
 fit_length [] (b ∷ l) h = refl
 fit_length (a ∷ f) [] h = refl
@@ -19,7 +18,7 @@ module _ (l : List ℕ) (h : line_room ≤ length l) where
 
   -- every form is shorter
   pub long_unreadable : line_of l ≡ None
-  unfolding line_room line_of edge_line event_line clock_line fault_line when◌then◌else◌
+  unfolding line_room line_of edge_line event_line clock_line fault_line
   long_unreadable = simp unfit
 
 by_length : (l : List ℕ) (b : Bool) → leb line_room (length l) ≡ b → line_of (take line_room l) ≡ line_of l

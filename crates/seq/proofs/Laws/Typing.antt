@@ -6,7 +6,6 @@ use Rattle.std.proofs.Math.Path.{refl}
 use borrow.Author.Tests.{lt-ltb, le-ltb, le-leb, ne_eqb, ltb-true, ltb-false}
 use Rattle.std.proofs.Math.Dec.{eqb, ltb}
 use Rattle.std.proofs.lemmas.List.Edits.{sets}
-use Rattle.laws.specs.Pick.{when◌then◌else◌}
 use Rattle.laws.specs.Lists.{All}
 use Rattle.laws.specs.Sets.{sets_append}
 use Rattle.rules.specs.Numbers.{buffer_size}
@@ -28,7 +27,7 @@ use Rattle.seq.specs.Typing.{write, Byte, Small, line_for, script_of, steps_for,
 -- below 16
 module _ (d : ℕ) (h : d < 16) where
   digit_hex : is_hex (digit_of d) ≡ true
-  unfolding is_hex digit_of when◌then◌else◌
+  unfolding is_hex digit_of
   digit_hex = by_ten (ltb d 10) refl
     where
       by_ten : (t : Bool) → ltb d 10 ≡ t → is_hex (digit_of d) ≡ true
@@ -38,7 +37,7 @@ module _ (d : ℕ) (h : d < 16) where
           rw (e, le-ltb (55 + d) 58 (omega arith), lt-ltb (55 + d) 71 (omega arith)) (le-leb 65 (55 + d) (omega arith))
 
   digit_read : hex_of (digit_of d) ≡ d
-  unfolding hex_of digit_of when◌then◌else◌
+  unfolding hex_of digit_of
   digit_read = by_ten (ltb d 10) refl
     where
       by_ten : (t : Bool) → ltb d 10 ≡ t → hex_of (digit_of d) ≡ d
@@ -46,7 +45,7 @@ module _ (d : ℕ) (h : d < 16) where
       by_ten false e = let i = ltb-false d 10 e in rw (digit_hex, e, le-ltb (55 + d) 58 (omega arith)) (omega arith)
 
   digit_no_lf : eqb (digit_of d) 10 ≡ false
-  unfolding digit_of when◌then◌else◌
+  unfolding digit_of
   digit_no_lf = by_ten (ltb d 10) refl
     where
       by_ten : (t : Bool) → ltb d 10 ≡ t → eqb (digit_of d) 10 ≡ false
@@ -58,7 +57,7 @@ byte_read : (x : ℕ) → x < 256 → 16 * hex_of (digit_of (x / 16)) + hex_of (
 byte_read x h = rw (digit_read (x / 16) (omega arith), digit_read (x % 16) (omega arith)) (omega arith)
 
 pub read_write : (w : Typed) → Small w → line_of (line_for w) ≡ Some (Write w.at w.value)
-unfolding line_of in_form suiting when◌then◌else◌
+unfolding line_of in_form suiting
 read_write w (h, k) =
     rw (
       digit_hex (w.at / 16) (omega arith),
@@ -71,7 +70,7 @@ read_write w (h, k) =
 
 -- ---- a script of writes: its lines are the writes'
 script_next : (w : Typed) (l : List ℕ) → Small w → lines_of (line_for w ++ (10 ∷ l)) ≡ line_for w ∷ lines_of l
-unfolding ended_lines rest_of when◌then◌else◌
+unfolding ended_lines rest_of
 script_next w l (h, k) =
     rw (
       digit_no_lf (w.at / 16) (omega arith),

@@ -1,6 +1,5 @@
 -- What an event meets: each turn, with the kind, the phase and the event that lead to it. One table instead of a case for each kind, phase and event.
 use Rattle.std.specs.Prelude.{ℕ, Bool, true, ◌≡◌, refl}
-use Rattle.laws.specs.Pick.{when◌then◌else◌}
 use Rattle.laws.specs.Cases.{pick_holds}
 use Rattle.rules.specs.declared.parts.Kind.{Kind}
 use Rattle.rules.specs.declared.parts.Kind.TheVariants.{Fm, Ufm}
@@ -93,12 +92,12 @@ slow Waiting = scl refl
 
 -- what it comes to is the same
 pub ack_turn_lem : (k : Kind) (p : Phase) (te : Bool) (n : ℕ) → turn_of k p te n (ack_of k) ≡ ack_turn p
-unfolding turn_of heard_turn when◌then◌else◌
+unfolding turn_of heard_turn
 ack_turn_lem Fm p te n = refl
 ack_turn_lem Ufm p te n = refl
 
 pub meeting : (k : Kind) (p : Phase) (te : Bool) (n : ℕ) (e : Event) → Meeting k p e (turn_of k p te n e)
-unfolding turn_of heard_turn tick_turn when◌then◌else◌
+unfolding turn_of heard_turn tick_turn
 meeting Fm p te n (Ninth Low) = ack Fm p
 meeting Fm p te n (Ninth High) = nack p
 meeting Ufm p te n (Ninth l) = unawaited

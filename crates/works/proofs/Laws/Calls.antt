@@ -1,5 +1,5 @@
 -- The call of a work, on a single channel and on the part: what a function has to show.
-use Rattle.std.specs.Prelude.{ℕ, zero, suc, ◌+◌, ◌-◌, ◌*◌, ◌<◌, ◌≤◌, Bool, List, ◌++◌, Result, Ok, Err, ◌≡◌, eqb, length, take, drop}
+use Rattle.std.specs.Prelude.{ℕ, zero, suc, ◌+◌, ◌-◌, ◌*◌, ◌<◌, ◌≤◌, Bool, List, ◌++◌, Result, Ok, Err, ◌≡◌, eqb, length, take, drop, if◌then◌else◌}
 use Rattle.std.proofs.Math.Bool.{true, false}
 use Rattle.std.proofs.Math.Path.{refl, sym, ap}
 use Rattle.std.proofs.Common.{◌∙◌, arith, take-append-drop}
@@ -8,7 +8,6 @@ use borrow.Author.Tests.{eq-eqb, ne_eqb, eqb-true, ltb-true, ltb-false, lt-ltb, 
 use Rattle.std.proofs.Math.Dec.{ltb}
 use Rattle.std.proofs.Math.ListN.{set}
 use Rattle.std.proofs.Math.Seq.{drop-drop, set-get_or}
-use Rattle.laws.specs.Pick.{when◌then◌else◌}
 use Rattle.laws.specs.Cases.{pick_true, pick-false, not_refused, accepted}
 use Rattle.rules.specs.declared.wires.Action.TheVariants.{Nothing}
 use Rattle.rules.specs.declared.numbers.Refusal.{Refusal}
@@ -98,8 +97,8 @@ module _ (w : Work) (p : Part) (m : List ℕ) (c : ℕ) where
     abbrev Outside : ℕ → Type 0
     Outside k = (k ≡ 0 → ⊥) → (work_done (state_of p m) c w ≡ state_of p m) × (work_reply (state_of p m) c w ≡ refusal (state_of p m) w k)
 
-    outside_by : (a b : Bool) → accepts p (length m) ≡ a → ltb 2 c ≡ b → Outside (when a then (when b then nowhere else done) else out_of_range)
-    unfolding work_done work_reply when◌then◌else◌
+    outside_by : (a b : Bool) → accepts p (length m) ≡ a → ltb 2 c ≡ b → Outside (if a then (if b then nowhere else done) else out_of_range)
+    unfolding work_done work_reply
     outside_by true true t u z = let l = le-ltb c 3 (let k = ltb-true 2 c u in omega (arith, k)) in (rw (t, l), rw (t, l))
     outside_by true false t u z = absurd (z refl)
     outside_by false b t u z = (rw t, rw t)
@@ -129,11 +128,11 @@ module _ (w : Work) (p : Part) (m : List ℕ) (c : ℕ) where
       inside = lt-ltb c 3 (omega arith)
 
       pub call_done : work_done (state_of p m) c w ≡ work_after (state_of p m) c w
-      unfolding work_done when◌then◌else◌
+      unfolding work_done
       call_done = rw (t, inside)
 
       pub call_replies : work_reply (state_of p m) c w ≡ reply_by c (work_gives (state_of p m) c w)
-      unfolding work_reply when◌then◌else◌
+      unfolding work_reply
       call_replies = rw (t, inside)
 
       -- the window that is lent
@@ -157,7 +156,7 @@ module _ (w : Work) (p : Part) (m : List ℕ) (c : ℕ) where
       -- a work that is no write, leaves the channel, and answers a number other than 5 and nothing else, leaves the part
       module _ (calm : w.writes ≡ false) (n : ℕ) (left : w.after (own_of (state_of p m) c) ≡ own_of (state_of p m) c) (says : (w.gives (own_of (state_of p m) c)).answer ≡ numbered n) (no-be : eqb n past_buffer ≡ false) where
         pub after_left : work_after (state_of p m) c w ≡ state_of p m
-        unfolding work_after be_after when◌then◌else◌
+        unfolding work_after be_after
         after_left = rw (left, says, calm, no-be, set-get_or p.channels c blank, window_same c m)
 
 quiet-left : (k : ℕ) → only_at k Nothing ≡ quiet
@@ -170,7 +169,7 @@ quiet-left (suc (suc (suc k))) = refl
 module _ (d : Deed) (p : Part) (m : List ℕ) (c : ℕ) (t : accepts p (length m) ≡ true) (low : c ≤ 2) (calm : eqb (deed_number d (own_of (state_of p m) c)) past_buffer ≡ false)
     (r : Result (Unit {0}) Refusal) (q : Own) (l : List ℕ) (k : Did d (own_of (state_of p m) c) r q l) where
   deed_left : record { part = record { channels = set p.channels c q.channel; be = p.be; mask = p.mask; key = p.key }; memory = put_window c q.bytes m } ≡ work_after (state_of p m) c (idle_work d)
-  unfolding work_after be_after when◌then◌else◌
+  unfolding work_after be_after
   deed_left = rw (k.own, calm)
 
   deed_reply : record { answer = (refused_part p (number_of r)).answer; out = l } ≡ reply_by c (work_gives (state_of p m) c (idle_work d))
@@ -193,8 +192,8 @@ module _ (w : Work) (s : State) (c : ℕ) where
     pub given : (w.gives (own_of s c)).answer.number ≡ 0
     pub out : (work_reply s c w).out ≡ (w.gives (own_of s c)).out
 
-  answered_in : Accepts s → work_reply s c w ≡ (when ltb c 3 then reply_by c (work_gives s c w) else refusal s w 1) → (work_reply s c w).answer.number ≡ 0 → Answered
-  unfolding work_gives when◌then◌else◌
+  answered_in : Accepts s → work_reply s c w ≡ (if ltb c 3 then reply_by c (work_gives s c w) else refusal s w 1) → (work_reply s c w).answer.number ≡ 0 → Answered
+  unfolding work_gives
   answered_in g e z = go (ltb c 3) refl
     where
       go : (b : Bool) → ltb c 3 ≡ b → Answered
@@ -204,7 +203,7 @@ module _ (w : Work) (s : State) (c : ℕ) where
       go false t = absurd (let q : work_reply s c w ≡ refusal s w 1 = e ∙ (rw t) in let r = ap (λ (x : Reply). x.answer.number) q in omega (arith, r, z))
 
   pub call_answered : (work_reply s c w).answer.number ≡ 0 → Answered
-  unfolding work_reply when◌then◌else◌
+  unfolding work_reply
   call_answered z = go (accepts s.part (length s.memory)) refl
     where
       go : (b : Bool) → accepts s.part (length s.memory) ≡ b → Answered

@@ -1,9 +1,8 @@
 -- A deed of an Idle channel keeps to what a work has to.
-use Rattle.std.specs.Prelude.{ℕ, Bool, ◌≡◌, eqb}
+use Rattle.std.specs.Prelude.{Bool, ◌≡◌, eqb, if◌then◌else◌}
 use Rattle.std.proofs.Math.Bool.{true, false}
 use Rattle.std.proofs.Math.Path.{refl}
-use Rattle.std.proofs.Common.{◌∙◌, arith, eqb-true}
-use Rattle.laws.specs.Pick.{when◌then◌else◌}
+use Rattle.std.proofs.Common.{arith, eqb-true}
 use Rattle.laws.specs.Cases.{pick_holds, not_refused}
 use Rattle.rules.specs.Numbers.{done, locked}
 use Rattle.rules.specs.Registers.{active_of}
@@ -22,10 +21,10 @@ module _ (d : Deed) where
   number_unkeyed o = rw (d.numbers o)
 
   pub after_unkeyed : (o : Own) → deed_after d (unkeyed o) ≡ unkeyed (deed_after d o)
-  unfolding deed_after when◌then◌else◌
+  unfolding deed_after
   after_unkeyed o = rw (number_unkeyed o) (go (eqb (deed_number d o) done))
     where
-      go : (b : Bool) → (when b then d.change (unkeyed o) else unkeyed o) ≡ unkeyed (when b then d.change o else o)
+      go : (b : Bool) → (if b then d.change (unkeyed o) else unkeyed o) ≡ unkeyed (if b then d.change o else o)
       go true = d.unkeys o
       go false = refl
 
@@ -45,18 +44,13 @@ module _ (d : Deed) where
 -- ---- a deed on an Idle channel
 module _ (d : Deed) (o : Own) (i : IdleOwn o) where
   pub idle_number : deed_number d o ≡ d.number o
-  unfolding deed_number when◌then◌else◌
+  unfolding deed_number
   idle_number = rw i
 
   pub done_after : d.number o ≡ 0 → deed_after d o ≡ d.change o
-  unfolding deed_after when◌then◌else◌
+  unfolding deed_after
   done_after e = rw (idle_number, e)
 
   pub done_out : d.number o ≡ 0 → deed_out d o ≡ d.hands o
-  unfolding deed_out when◌then◌else◌
+  unfolding deed_out
   done_out e = rw (idle_number, e)
-
--- its number, from the phase and its own number
-pub deed_is : (d : Deed) (o : Own) (n k : ℕ) → n ≡ (when active_of o.channel.head.walk.phase then locked else k) → k ≡ d.number o → n ≡ deed_number d o
-unfolding deed_number
-deed_is d o n k e p = e ∙ (rw p)

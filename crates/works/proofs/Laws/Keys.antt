@@ -1,8 +1,7 @@
 -- What a channel's step makes of its key: of the steps of the wires and the accesses only a write to PRESET looks at it, and reads and events leave it.
-use Rattle.std.specs.Prelude.{ℕ, Bool, true, false, List, ◌≡◌, eqb, ltb, Option, Some, None}
+use Rattle.std.specs.Prelude.{ℕ, Bool, true, false, List, ◌≡◌, eqb, ltb, Option, Some, None, if◌then◌else◌}
 use Rattle.std.proofs.Math.Path.{refl, ap}
 use Rattle.std.proofs.Common.{sym, arith}
-use Rattle.laws.specs.Pick.{when◌then◌else◌}
 use Rattle.laws.specs.Cases.{false_not_true}
 use Rattle.rules.specs.declared.registers.Register.{Register}
 use Rattle.rules.specs.declared.registers.Register.TheVariants.{Status, Control, Chstatus, Intmsk, Slatable, Tranconfig, Data, Transel, Tranofs, Bytecount, Setting, Preset}
@@ -80,8 +79,7 @@ abbrev pub served_with : Bool → Served → Served
 served_with k d = record { stepped = stepped_with k d.stepped; bytes = d.bytes }
 
 -- where each of two comes of f, the one chosen does
-pick-map : {A B : Type 0} (f : A → B) (b : Bool) (x y : A) {u v : B} → u ≡ f x → v ≡ f y → (when b then u else v) ≡ f (when b then x else y)
-unfolding when◌then◌else◌
+pick-map : {A B : Type 0} (f : A → B) (b : Bool) (x y : A) {u v : B} → u ≡ f x → v ≡ f y → (if b then u else v) ≡ f (if b then x else y)
 pick-map f true x y p q = p
 pick-map f false x y p q = q
 
@@ -253,15 +251,15 @@ edge_key c edge = ap (λ (r : Stepped). r.channel.head.key) (edge_keyed c.head.k
 
 -- ---- A STEP THAT DOES NOT WRITE TO PRESET makes the same of a channel whose key was forgotten, and its key stays forgotten
 not_reset : (v : ℕ) (key : Bool) → resets_of false v key ≡ false
-unfolding resets_of when◌then◌else◌
+unfolding resets_of
 not_reset v key = refl
 
 not_kept : (v : ℕ) → key_after false v ≡ false
-unfolding key_after when◌then◌else◌
+unfolding key_after
 not_kept v = refl
 
 put-keyless : (c : Channel) (m : List ℕ) (reg : Register) (v : ℕ) → preset_of reg ≡ false → put_of (keyless c) m reg v ≡ served_with false (put_of c m reg v)
-unfolding put_of when◌then◌else◌
+unfolding put_of
 put-keyless c m reg v q = rw (q, not_reset v c.head.key, not_reset v false, not_kept v) (write-keyed false (keyless c) m reg v)
 
 write-keyless : (c : Channel) (m : List ℕ) (p : Option Register) (v : ℕ) → preset_at p ≡ false → write_at (keyless c) m p v ≡ served_with false (write_at c m p v)
@@ -277,6 +275,5 @@ served_keyless c m number (Wire x) q = event_keyed false c m number x
 
 -- ---- to a work of its own a channel's key is left
 pub left_own : (p : Part) (c : ℕ) (writes : Bool) → chan (left_for p c writes) c ≡ chan p c
-unfolding when◌then◌else◌
 left_own p c true = own_left_lem p c
 left_own p c false = refl

@@ -5,7 +5,6 @@ use Rattle.std.proofs.Math.Path.{refl, sym}
 use Rattle.std.proofs.Common.{◌∙◌, ap, arith}
 use borrow.Author.Tests.{ltb-true, ne_eqb}
 use Rattle.std.proofs.Math.Dec.{ltb}
-use Rattle.laws.specs.Pick.{when◌then◌else◌}
 use Rattle.laws.specs.Cases.{pick-false, pick_holds}
 use Rattle.rules.specs.Numbers.{done, past_buffer}
 use Rattle.part.specs.Step.{accepts}
@@ -19,18 +18,18 @@ use Rattle.works.proofs.Laws.Calls.{call_replies, after_left}
 -- AN IDLE CHANNEL'S WORK SPARES THE REST OF THE PART
 module _ (s : State) (g : Accepted s) (c : ℕ) (d : Deed) where
   after_spares : c < 3 → Spares c s (work_after s c (idle_work d))
-  unfolding work_after when◌then◌else◌
+  unfolding work_after
   after_spares h = record { others = λ e ne. own_other s g c e (idle_work d) h ne; mask = refl; key = refl }
 
   pub idle_spares : Spares c s (work_done s c (idle_work d))
-  unfolding work_done when◌then◌else◌
+  unfolding work_done
   idle_spares = rw g (pick_holds (Spares c s) (ltb c 3) (λ t. after_spares (ltb-true c 3 t)) (λ _. record { others = λ e ne. refl; mask = refl; key = refl }))
 
 -- ---- what leaves all, where no number is 5, which sets BE
 module _ (s : State) (c : ℕ) (d : Deed) (calm : (o : Own) → eqb (deed_number d o) past_buffer ≡ false) where
   -- refused before the work, or of a channel that is there
   by_call : (P : State → List ℕ → Type 0) → P s d.lent → (Accepted s → c ≤ 2 → P (work_after s c (idle_work d)) (deed_out d (own_of s c))) → P (work_done s c (idle_work d)) (work_reply s c (idle_work d)).out
-  unfolding work_done work_reply work_gives when◌then◌else◌
+  unfolding work_done work_reply work_gives
   by_call P left done' = go (accepts s.part (length s.memory)) (ltb c 3) refl refl
     where
       go : (a b : Bool) → accepts s.part (length s.memory) ≡ a → ltb c 3 ≡ b → P (work_done s c (idle_work d)) (work_reply s c (idle_work d)).out

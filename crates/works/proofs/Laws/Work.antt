@@ -1,10 +1,9 @@
 -- A work of channel c beside a work of channel d, once for all works.
-use Rattle.std.specs.Prelude.{ℕ, zero, suc, ◌+◌, ◌*◌, ◌<◌, ◌≤◌, Bool, true, false, List, [], ◌∷◌, map, ◌≡◌, refl, eqb, length, get_or, set}
+use Rattle.std.specs.Prelude.{ℕ, zero, suc, ◌+◌, ◌*◌, ◌<◌, ◌≤◌, Bool, true, false, List, [], ◌∷◌, map, ◌≡◌, refl, eqb, length, get_or, set, if◌then◌else◌}
 use Rattle.std.proofs.Common.{sym, ◌∙◌, set-set}
 use Rattle.std.proofs.Math.Path.{ap}
 use Rattle.std.proofs.lemmas.List.{set_comm}
 use Rattle.std.proofs.Math.Seq.{get_or-set_other}
-use Rattle.laws.specs.Pick.{when◌then◌else◌}
 use Rattle.rules.specs.Numbers.{buffer_size}
 use Rattle.interrupt.specs.Interrupt.{be_after}
 use Rattle.interrupt.proofs.Laws.Interrupt.{be_swap}
@@ -23,7 +22,7 @@ use Rattle.works.specs.Work.{Own, Sound, Work, left_for, own_of, work_after, wor
 
 -- ---- channels where every key but one is forgotten, and what is put among them
 abbrev put_in : List Channel → ℕ → Channel → Bool → List Channel
-put_in l c x writes = set (when writes then all_but keyless blank l c else l) c x
+put_in l c x writes = set (if writes then all_but keyless blank l c else l) c x
 
 keyless-set : (l : List Channel) (c : ℕ) (x : Channel) → map keyless (set l c x) ≡ set (map keyless l) c (keyless x)
 keyless-set [] c x = refl
@@ -36,15 +35,13 @@ keyless_twice (y ∷ l) = ap (λ (t : List Channel). keyless y ∷ t) (keyless_t
 
 -- a channel beside a work of another one: a write forgets its key
 abbrev pub beside : Bool → Channel → Channel
-beside writes x = when writes then keyless x else x
+beside writes x = if writes then keyless x else x
 
 put_written : (l : List Channel) (c : ℕ) (x : Channel) → put_in l c x true ≡ set (map keyless l) c x
-unfolding when◌then◌else◌
 put_written l c x = set-set (map keyless l) c (get_or l c blank) x
 
 channels_swap : (l : List Channel) (c d : ℕ) (x y : Channel) (a b : Bool) → (c ≡ d → ⊥)
     → put_in (put_in l c x a) d (beside a y) b ≡ put_in (put_in l d y b) c (beside b x) a
-unfolding when◌then◌else◌
 channels_swap l c d x y true true ne =
     rw (
       put_written l c x,
@@ -64,15 +61,14 @@ channels_swap l c d x y false false ne = set_comm l c d x y ne
 
 -- CTRLPRESET's key is only ever forgotten
 abbrev key_left : Bool → ℕ → Bool → Bool
-key_left key c writes = when writes then (when eqb c 3 then key else false) else key
+key_left key c writes = if writes then (if eqb c 3 then key else false) else key
 
 key_swap : (c d : ℕ) (a b key : Bool) → key_left (key_left key c a) d b ≡ key_left (key_left key d b) c a
-unfolding when◌then◌else◌
 key_swap c d a b key = go a b (eqb c 3) (eqb d 3) key
   where
     go : (a b x y key : Bool)
-        → (when b then (when y then (when a then (when x then key else false) else key) else false) else (when a then (when x then key else false) else key))
-        ≡ (when a then (when x then (when b then (when y then key else false) else key) else false) else (when b then (when y then key else false) else key))
+        → (if b then (if y then (if a then (if x then key else false) else key) else false) else (if a then (if x then key else false) else key))
+        ≡ (if a then (if x then (if b then (if y then key else false) else key) else false) else (if b then (if y then key else false) else key))
     go true true true true key = refl
     go true true true false key = refl
     go true true false true key = refl
@@ -88,12 +84,10 @@ abbrev pub own_left : Bool → Own → Own
 own_left writes o = record { channel = beside writes o.channel; bytes = o.bytes }
 
 after_left : (w : Work) (writes : Bool) (o : Own) → w.after (own_left writes o) ≡ own_left writes (w.after o)
-unfolding when◌then◌else◌
 after_left w true o = w.unkeys o
 after_left w false o = refl
 
 gives_left : (w : Work) (writes : Bool) (o : Own) → w.gives (own_left writes o) ≡ w.gives o
-unfolding when◌then◌else◌
 gives_left w true o = w.blind o
 gives_left w false o = refl
 
@@ -112,7 +106,6 @@ put_by s c w x o = record {
 flat : (p : Part) (c : ℕ) (x : Channel) (n : ℕ) (writes : Bool)
     → (let q = left_for p c writes in one_after q c x (be_after q.be n))
     ≡ record { channels = put_in p.channels c x writes; be = be_after p.be n; mask = p.mask; key = key_left p.key c writes }
-unfolding when◌then◌else◌
 flat p c x n true = refl
 flat p c x n false = refl
 
@@ -121,13 +114,11 @@ unfolding work_after
 put_flat s c w = let o = own_of s c in rw (flat s.part c (w.after o).channel (w.gives o).answer.number w.writes)
 
 left_other : (p : Part) (c d : ℕ) (writes : Bool) → (c ≡ d → ⊥) → chan (left_for p c writes) d ≡ beside writes (chan p d)
-unfolding when◌then◌else◌
 left_other p c d true ne = other_left p c d ne
 left_other p c d false ne = refl
 
 -- a part in range stays so where a write forgets
 left_in : (p : Part) (m : List ℕ) (c : ℕ) (writes : Bool) → Whole p m → Whole (left_for p c writes) m
-unfolding when◌then◌else◌
 left_in p m c true w = forgotten-whole p m c w
 left_in p m c false w = w
 

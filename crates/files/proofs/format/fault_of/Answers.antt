@@ -1,20 +1,6 @@
 -- `files::format::fault_of` meets its contract: the first fault that applies.
 use Rattle.files.proofs.Laws.Blocks.{fault_behind}
-use Rattle.files.specs.File.{fault_of}
-use Rattle.laws.specs.Cases.{cases}
 use Rattle.files.proofs.format.fault_of.Goals as goal
-
-pub returns-then-file-lt-HEADER : goal.returns-then-file-lt-HEADER
-unfolding fault_of
-returns-then-file-lt-HEADER c = search cases depth 12
-
-pub returns-then-n-gt64 : goal.returns-then-n-gt64
-unfolding fault_of
-returns-then-n-gt64 c = rw (← c.count-n.ensures) (search cases depth 12)
-
-pub returns-then-file-data : goal.returns-then-file-data
-unfolding fault_of
-returns-then-file-data c = rw (← c.count-n.ensures) (search cases depth 12)
 
 -- the header and the tables' blocks are there
 pub returns : goal.returns

@@ -5,12 +5,6 @@ use Rattle.files.proofs.Laws.Calls.{count_few, room_open, tables-put}
 use Rattle.files.proofs.Laws.Moves.{take_count}
 use Rattle.files.proofs.single.save_tables.Goals as goal
 
-pub start_of-s-requires : goal.start_of-s-requires
-start_of-s-requires c = count_few _ _ c.requires.0.ranged c.from-n.ensures
-
-pub shared_ref_as_front-put_file : goal.shared_ref_as_front-put_file
-shared_ref_as_front-put_file c = count_few _ _ c.requires.0.ranged c.from-n.ensures
-
 pub header-head-requires : goal.header-head-requires
 header-head-requires c =
     let room = room_open c.args.c.now c.args.mem.now c.args.out.now _ _ c.from-n.ensures c.start_of-s.ensures.0 c.requires.1 in

@@ -1,14 +1,13 @@
--- `rules::access::find_place` meets its contract.
-use Rattle.rules.proofs.Laws.Access.{past_all, is_place, no_place}
-use Rattle.rules.proofs.access.find_place.Goals.{else-at-lt-BUFFER-via-then-at-lt-BUFFER+else-configured, else-at-lt-BUFFER-via-else-at-lt-BUFFER}
+-- `rules::access::find_place` meets its contract: a place that passes both tests is the one that was asked for, and no other is found.
+use Rattle.std.proofs.Common.{◌∙◌, refl, lt-ltb, le-ltb}
+use Rattle.rules.specs.Access.{spot_of}
+use Rattle.rules.proofs.Laws.Access.{finds, then_some_if}
+use Rattle.rules.proofs.access.find_place.Goals.{then-at-lt-BUFFER, else-at-lt-BUFFER}
 use Rattle.rules.proofs.access.find_place.Goals as goal
 
-pub returns-then-configured : goal.returns-then-configured
-returns-then-configured c = is_place _ _ _ c.if-at-lt-BUFFER.true c.configured.ensures c.if-configured.true
-
-pub returns-else-at-lt-BUFFER : goal.returns-else-at-lt-BUFFER
-returns-else-at-lt-BUFFER c =
-    elim c.else-at-lt-BUFFER.branch [
-      | else-at-lt-BUFFER-via-then-at-lt-BUFFER+else-configured w ↦ no_place _ _ _ w.if-at-lt-BUFFER.true w.configured.ensures w.if-configured.false
-      | else-at-lt-BUFFER-via-else-at-lt-BUFFER w ↦ past_all _ _ w.if-at-lt-BUFFER.false
-    ]
+pub returns : goal.returns
+unfolding spot_of
+returns c = finds _ _ _ (c.then_some.ensures ∙ elim c.if-at-lt-BUFFER.branch [
+  | then-at-lt-BUFFER w ↦ rw (w.then_some-is, w.configured.ensures, lt-ltb _ _ w.if-at-lt-BUFFER.true) (then_some_if _ _)
+  | else-at-lt-BUFFER w ↦ rw (w.then_some-is, le-ltb _ _ w.if-at-lt-BUFFER.false) refl
+])

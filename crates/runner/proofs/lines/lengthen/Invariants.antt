@@ -4,4 +4,4 @@ use Rattle.runner.specs.Lines.{lengthened}
 use Rattle.runner.proofs.lines.lengthen.Given as goal
 
 abbrev pub invariant-loop-b : goal.invariant-loop-b
-invariant-loop-b l = lengthened l.initial.longer l.more ≡ lengthened l.longer (drop l.b-index l.more)
+invariant-loop-b l = lengthened l.initial.line l.more ≡ lengthened l.line (drop l.b-index l.more)

@@ -9,24 +9,24 @@ use Rattle.seq.proofs.commands.load_text.Goals as goal
 pub type_file-requires : goal.type_file-requires
 unfolding wiped
 type_file-requires c =
-    let known = load-answered _ _ _ _ c.if-number-ne-DONE.false _ c.load_into-r.ensures.0 in
+    let known = load-answered _ _ _ _ c.in-0.is _ c.load_into-r.ensures.0 in
     (known.0, known.1, search rules)
 
-pub returns : goal.returns
+pub returns-in-0 : goal.returns-in-0
 unfolding wiped
-returns c =
+returns-in-0 c =
     let size = length (script_of (typing_all c.args.c c.args.file.now)) in
     let long : c.type_file.result ≡ size = omega (arith, c.type_file.ensures.0.place) in
     record {
-      answer = sized_done _ _ size (load_number c.args.file.now _ _ c.args.c _ c.new.ensures refl c.load_into-r.ensures.0) _ c.if-number-ne-DONE.false long;
+      answer = sized_done _ _ size (load_number c.args.file.now _ _ c.args.c _ c.new.ensures refl c.load_into-r.ensures.0) _ c.in-0.is long;
       script = c.type_file.ensures.0;
       fits = search rules;
     }
 
-pub returns-then-number-ne-DONE : goal.returns-then-number-ne-DONE
+pub returns-in_default : goal.returns-in_default
 unfolding wiped
-returns-then-number-ne-DONE c = record {
-  answer = sized_refused _ _ _ (load_number c.args.file.now _ _ c.args.c _ c.new.ensures refl c.load_into-r.ensures.0) c.if-number-ne-DONE.true;
+returns-in_default c = record {
+  answer = sized_refused _ _ _ (load_number c.args.file.now _ _ c.args.c _ c.new.ensures refl c.load_into-r.ensures.0) (λ e. omega (arith, e));
   script = tt;
   fits = tt;
 }
