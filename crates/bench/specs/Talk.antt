@@ -1,5 +1,5 @@
 -- What the program reads and what it hands to `write`, piece by piece; put together they are a script and its output (`talk_output`, proofs/Laws/Talk.antt).
-use Rattle.std.specs.Prelude.{ℕ, ◌≤◌, Bool, false, List, [], ◌++◌, ◌≡◌, ltb, length, take, Result, Ok, Err}
+use Rattle.std.specs.Prelude.{ℕ, ◌≤◌, List, [], ◌++◌, ◌≡◌, length, take, Result, Ok, Err}
 use Rattle.part.specs.Facts.{Whole}
 use Rattle.answers.specs.Answer.{header}
 use Rattle.runner.specs.declared.lines.Start.{Start}
@@ -25,7 +25,7 @@ sitting_of s m = record { desk = desk_of s.part m s.step; line = kept_bytes s.li
 abbrev pub bare_of : Seat → List ℕ → Sitting
 bare_of s m = record { desk = desk_of s.part m s.step; line = [] }
 
--- what each turn asks and leaves: no. 9 refuses nothing, and what is kept of a line has no LF
+-- what each turn asks and leaves: no. 9 refuses nothing, and what is kept of a line has no LF. No invariant of `Seat`, since it speaks of the memory beside it
 pub record Ready (s : Seat) (m : List ℕ) : Type 0 where
   pub whole : Whole s.part m
   pub unended : length (kept_bytes s.line) ≤ first_lf (kept_bytes s.line)
@@ -55,11 +55,6 @@ silenced s = record { part = s.part; step = s.step; line = s.line; at = 0 }
 pub data Written (next : Next) (how : Result Next Failed) : Type 0 where
   taken : how ≡ Ok next → Written next how
   lost : how ≡ Err Unwritten → Written next how
-
-abbrev pub going_on : ℕ → Result Next Failed → Bool
-going_on turns (Ok On) = ltb 0 turns
-going_on turns (Ok Ended) = false
-going_on turns (Err e) = false
 
 -- ---- the header, and a turn: what `read` gave, and the text that was handed to `write`
 

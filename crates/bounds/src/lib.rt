@@ -1,4 +1,4 @@
-// Document 01, 'Out of range': its clauses over the parts of a channel's record. Each table by itself, since this crate stands below `Channel`.
+// Document 01, 'Out of range': its clauses over the parts of a channel's record. Each table by itself, since this crate stands below `Channel`; TE and FRAMECNT side by side, since they are of two structs (Regs, Settings).
 #![tactic(auto, using(laws::specs::Cases::cases), unfolding(crate::specs::Range::pointers_in, crate::specs::Range::registers_in, crate::specs::Range::counting_of, crate::specs::Range::ended_in, crate::specs::Range::blank_of, crate::specs::Range::recorded_in, crate::specs::Range::walk_in, crate::specs::Range::standing, crate::specs::Range::counted_in, crate::specs::Range::counts_in, crate::specs::Range::frame_at, crate::specs::Range::frame_in, crate::specs::Range::kinds_in))]
 
 ghost use Rattle.std.specs.Prelude.{◌≡◌, ◌<◌, ◌≤◌, get_or};

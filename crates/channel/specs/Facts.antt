@@ -9,7 +9,7 @@ use Rattle.channel.specs.declared.state.Channel.{Channel}
 use Rattle.channel.specs.State.{count_of}
 use Rattle.channel.specs.Range.{in_range}
 
--- what a step that is not refused by no. 9 may rely on
+-- what a step that is not refused by no. 9 may rely on: a fact and no invariant of `Channel`, since `step_of` answers any record and any bytes
 pub record Accepted (c : Channel) (m : List ℕ) : Type 0 where
   pub ranged : in_range c ≡ true
   pub whole : length m ≡ buffer_size

@@ -65,7 +65,7 @@ pub(crate) fn header(n: usize, s: usize) -> [[u8; 2]; 6]
     ]
 }
 
-// The count that a file's first number says.
+// The count that a file's first number says. That a file has 12 bytes and a count of at most 64 is what `fault_of` finds, of any bytes, on its way.
 pub(crate) fn count(file: &[u8]) -> usize
     requires { 12 ≤ length file.now }
     ensures { result ≡ count_in file.now }

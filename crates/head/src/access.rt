@@ -93,6 +93,7 @@ impl Head {
         }
     }
 
+    // TRANSEL is at most 63 by the range, which is no invariant: any head can be written down (`head_in`).
     pub fn data_place(&self, lens: &[u8; 65]) -> usize
         requires { self.now.regs.transel ≤ 63 }
         ensures { result ≡ data_place self.now lens.now }

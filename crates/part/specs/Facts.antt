@@ -4,7 +4,7 @@ use Rattle.rules.specs.Numbers.{memory_size}
 use Rattle.part.specs.declared.state.Part.{Part}
 use Rattle.part.specs.Step.{part_in}
 
--- what a step that is not refused by no. 9 may rely on
+-- what a step that is not refused by no. 9 may rely on: a fact and no invariant of `Part`, since `part_step` answers any part and any memory
 pub record Whole (p : Part) (m : List ℕ) : Type 0 where
   pub ranged : part_in p ≡ true
   pub whole : length m ≡ memory_size

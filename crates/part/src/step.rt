@@ -35,7 +35,7 @@ impl Part {
         ensures { given self.new result ≡ trigger_step self.old edge }
     {
         let mut actions = no_acts();
-        // By number: an `iter_mut` of the channels would need `zip` for the actions.
+        // By number: three lists go side by side, the channels, BE after each of them and the actions (`edge_channel`, `edge_be`, `edge_act`).
         for c in 0..3 {
             let a = self.channels[c].trigger(edge);
             self.be = be_after(self.be, a.number);

@@ -1,4 +1,5 @@
 -- Facts that functions hand to each other, beside what they return. Nobody has to believe them: each is proved where it is promised.
+-- Facts and no invariants of a type, a count of at most 64 among them: any record can be written down, and out of range it is answered no. 9 (`registers_in`).
 use Rattle.std.specs.Prelude.{ℕ, ◌<◌, ◌≤◌, Bool, List, Option, Some, None, ◌≡◌, get_or}
 use Rattle.rules.specs.declared.parts.Kind.{Kind}
 use Rattle.rules.specs.declared.registers.Register.{Register}

@@ -11,7 +11,7 @@ use Rattle.seq.specs.declared.lines.Refused.{Refused}
 use Rattle.seq.specs.declared.lines.Tally.{Tally}
 use Rattle.seq.specs.declared.lines.Ran.{Ran}
 
--- the input is shorter than this
+-- the input is shorter than this: asked of each call that it is lent to, since any bytes can be lent
 abbrev pub input_room : ℕ
 input_room = 1048576
 

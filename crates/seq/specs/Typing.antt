@@ -42,6 +42,6 @@ abbrev pub blocks_typed : ℕ → ℕ → List ℕ → List ℕ → List ℕ →
 blocks_typed b n a l d =
     write (b + 6) 0 ∷ write b 2 ∷ write (b + 4) n ∷ (each_to (b + 4) l ++ (each_to (b + 3) a ++ (each_to (b + 5) d ++ (write b 2 ∷ []))))
 
--- the most bytes: 8 a line; 2 lines, the count, 64 lengths, 64 addresses, 4,352 bytes and 1 line
+-- the most bytes: 8 a line; 2 lines, the count, 64 lengths, 64 addresses, 4,352 bytes and 1 line. Asked of each call that the room is lent to
 abbrev pub text_room : ℕ
 text_room = 35872

@@ -59,7 +59,7 @@ impl Tally {
     }
 }
 
-// A line that can't be read is no. 8, and leaves all.
+// A line that can't be read is no. 8, and leaves all. Not runner's `do_line`: that one requires `Whole`, which `run_lines` does not ask for.
 fn do_line(part: Part, mem: &mut [u8], line: Option<Step>) -> PartStepped
     ensures { (start result.part mem.new ≡ after_line (start part mem.old) line) × (result.answer ≡ line_answer (start part mem.old) line) }
 {

@@ -21,7 +21,7 @@ fn put_write(out: &mut [u8], at: usize, a: u8, v: u8) -> usize
     answers::put(out, at, &[b'W', b' ', page, place, b' ', high, low, b'\n'])
 }
 
-// A line for each byte, all to one address.
+// A line for each byte, all to one address. The promise speaks of the place where the first one stands, so `at` stays.
 fn put_each(out: &mut [u8], at: usize, a: u8, bytes: &[u8]) -> usize
     requires { at + 8 * length bytes.now ≤ length out.old }
     ensures { Put out.old at (script_of (each_to a bytes.now)) result out.new × (result ≡ at + 8 * length bytes.now) }

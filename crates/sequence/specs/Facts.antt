@@ -1,4 +1,5 @@
 -- Facts that functions hand to each other, beside what they return. Nobody has to believe them: each is proved where it is promised.
+-- They are of a moment of the sequence, and no invariant of the record that it goes over.
 use Rattle.std.specs.Prelude.{ℕ, ◌+◌, ◌<◌, List, get_or}
 use Rattle.rules.specs.Facts.{Running}
 use Rattle.sequence.specs.declared.wires.Next.{Next}

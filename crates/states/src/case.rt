@@ -175,6 +175,7 @@ impl Case {
         }
     }
 
+    // The channel's number is asked to be one of the part's: an index, and no type of its own for the two calls that take it.
     pub(crate) fn part(&self, i: usize) -> Part
         requires { i < 3 }
     {

@@ -1,7 +1,7 @@
 // The calls, each on the part and the memory.
 ghost use Rattle.std.specs.Prelude.{◌<◌, ◌+◌, ◌*◌, ◌≤◌, length};
 
-use crate::poke::Field;
+use crate::poke::{Field, NoField};
 use channel::Stepped;
 use part::{Part, PartStepped};
 use rules::{BUFFER, DONE, Device, MEMORY, UNREADABLE};
@@ -42,6 +42,12 @@ pub(crate) enum Call {
 #[derive(Clone, Copy)]
 pub(crate) struct NoCall;
 
+impl From<NoField> for NoCall {
+    fn from(_: NoField) -> NoCall {
+        NoCall
+    }
+}
+
 impl TryFrom<[u8; 6]> for Call {
     type Error = NoCall;
 
@@ -59,13 +65,10 @@ impl TryFrom<[u8; 6]> for Call {
             } else {
                 Device::Pca9663
             }),
-            2 => match Field::try_from(number) {
-                Ok(field) => Call::Poke {
-                    channel,
-                    field,
-                    value,
-                },
-                Err(_) => return Err(NoCall),
+            2 => Call::Poke {
+                channel,
+                field: Field::try_from(number)?,
+                value,
             },
             3 => Call::Load { channel, lent },
             4 => Call::Save { channel, lent },
@@ -76,6 +79,7 @@ impl TryFrom<[u8; 6]> for Call {
     }
 }
 
+// By value, and over the part's own bytes: the part that a call finds may be any, so no `serve`.
 fn run_line(part: Part, mem: &mut [u8], text: &[u8]) -> PartStepped
     requires { 13056 ≤ length mem.old }
 {
@@ -93,7 +97,7 @@ fn place(channel: u8) -> usize
     channel as usize % 3
 }
 
-// The part with the record that a channel's call handed back.
+// The part with the record that a channel's call handed back, and the answer as `Part::one` puts it, which also sets BE.
 fn put_back(mut part: Part, i: usize, r: Stepped) -> PartStepped
     requires { i < 3 }
 {

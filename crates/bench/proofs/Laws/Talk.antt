@@ -1,8 +1,7 @@
 -- The pieces that the program reads and hands to `write` are a script and its output.
-use Rattle.std.specs.Prelude.{ℕ, ◌<◌, true, List, [], ◌++◌, ◌≡◌, refl, Result, Ok, Err}
-use Rattle.std.proofs.Common.{append-nil, append_assoc, sym, ◌∙◌, ap, ltb-true}
+use Rattle.std.specs.Prelude.{ℕ, List, [], ◌++◌, ◌≡◌, refl, Result, Ok, Err}
+use Rattle.std.proofs.Common.{append-nil, append_assoc, sym, ◌∙◌, ap}
 use Rattle.std.proofs.Math.Seq.{take-nil}
-use Rattle.std.proofs.lemmas.Bool.{false≢true}
 use Rattle.script.specs.Grammar.{line_room}
 use Rattle.answers.specs.Answer.{header}
 use Rattle.runner.specs.Text.{Sitting, fed, said, last_said, opening, output_of, ended_lines, rest_of, after_all, replies_to}
@@ -14,15 +13,10 @@ use Rattle.bench.specs.declared.Next.{Next}
 use Rattle.bench.specs.declared.Next.TheVariants.{On, Ended}
 use Rattle.bench.specs.declared.Failed.{Failed}
 use Rattle.bench.specs.declared.Failed.TheVariants.{Unread, Unwritten}
-use Rattle.bench.specs.Talk.{sitting_of, Written, going_on, Talk}
+use Rattle.bench.specs.Talk.{sitting_of, Written, Talk}
 use Rattle.bench.specs.Talk.Written.{taken, lost}
 use Rattle.bench.specs.Talk.Turned.{read, ended, unread}
 use Rattle.bench.specs.Talk.Talk.{begun, more}
-
-pub going_on_lem : (turns : ℕ) (how : Result Next Failed) → going_on turns how ≡ true → (how ≡ Ok On) × (0 < turns)
-going_on_lem turns (Ok On) e = (refl, ltb-true 0 turns e)
-going_on_lem turns (Ok Ended) e = absurd (false≢true e)
-going_on_lem turns (Err x) e = absurd (false≢true e)
 
 -- a program that goes on as meant, unless a write failed, does not go on otherwise
 no_other : {A : Type 0} (next : Next) (how want : Result Next Failed) → (Ok next ≡ want → ⊥) → (Err Unwritten ≡ want → ⊥) → Written next how → how ≡ want → A
