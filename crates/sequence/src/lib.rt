@@ -1,4 +1,4 @@
-// Document 01, 'A sequence on the wires', as far as it needs no record of a channel: its enums, its decisions, the walks that they leave, and a byte counted and stored.
+// Document 01, 'A sequence on the wires', as far as it needs no record of a channel: its enums, its decisions, the walks that they leave, and a byte stored.
 #![tactic(auto)]
 
 mod walk;
