@@ -11,9 +11,6 @@ loop-init c =
     let first = c.begin-b.ensures in
     rw c.new-buffers.ensures (opening-ready _ _ first.stands, record { input = _; output = _; talk = begun _ _ _ first })
 
-pub turn-b-requires : goal.turn-b-requires
-turn-b-requires c = c.loop.invariant.0
-
 -- in a turn the last one has left it to go on
 pub loop-preserved : goal.loop-preserved
 loop-preserved c =

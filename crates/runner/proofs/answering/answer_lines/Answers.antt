@@ -30,9 +30,6 @@ slice_bounds-do_line-start c =
     omega (arith, end_after c.args.block.now c.loop-end.c.from, end_in c.args.block.now c.loop-end.c.from g.inside, g.here)
 
 -- ---- a turn
-pub do_line-answer-requires : goal.do_line-answer-requires
-do_line-answer-requires c = c.loop-end.invariant.1.whole
-
 pub loop-end-smaller : goal.loop-end-smaller
 loop-end-smaller c = omega (arith, end_after c.args.block.now c.loop-end.c.from, c.loop-end.invariant.1.here)
 
