@@ -1,5 +1,5 @@
 -- What the program reads and what it hands to `write`, piece by piece; put together they are a script and its output (`talk_output`, proofs/Laws/Talk.antt).
-use Rattle.std.specs.Prelude.{ℕ, ◌≤◌, List, [], ◌++◌, ◌≡◌, length, take, Result, Ok, Err}
+use Rattle.std.specs.Prelude.{ℕ, ◌≤◌, Bool, true, false, List, [], ◌++◌, ◌≡◌, length, take, Result, Ok, Err}
 use Rattle.part.specs.Facts.{Whole}
 use Rattle.answers.specs.Answer.{header}
 use Rattle.runner.specs.declared.lines.Start.{Start}
@@ -55,6 +55,12 @@ silenced s = record { part = s.part; step = s.step; line = s.line; at = 0 }
 pub data Written (next : Next) (how : Result Next Failed) : Type 0 where
   taken : how ≡ Ok next → Written next how
   lost : how ≡ Err Unwritten → Written next how
+
+-- another turn follows where the last one has left it to go on, and nowhere else
+abbrev pub going_on : Result Next Failed → Bool
+going_on (Ok On) = true
+going_on (Ok Ended) = false
+going_on (Err x) = false
 
 -- ---- the header, and a turn: what `read` gave, and the text that was handed to `write`
 

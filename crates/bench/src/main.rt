@@ -5,7 +5,7 @@ ghost use Rattle.std.specs.Prelude.{◌≡◌, ◌+◌, ◌-◌, ◌*◌, ◌≤
 ghost use Rattle.part.specs.State.{wiped};
 ghost use Rattle.script.specs.Grammar.{line_room};
 ghost use Rattle.answers.specs.Answer.{answer_room};
-ghost use Rattle.bench.specs.Talk.{block_size, sitting_of, bare_of, silenced, Sized, Ready, Heard, Closed, Written, Begun, Turned};
+ghost use Rattle.bench.specs.Talk.{block_size, sitting_of, bare_of, silenced, Sized, Ready, Heard, Closed, Written, going_on, Begun, Turned};
 
 use answers::ANSWER_ROOM;
 use part::Part;
@@ -41,7 +41,8 @@ struct Buffers {
 impl Buffers {
     #[tactic(auto, unfolding(part::specs::State::wiped))]
     fn new() -> Self
-        ensures { result.mem ≡ wiped }
+        ensures sizes { (length result.block ≡ block_size) × (length result.out ≡ answer_room * block_size) }
+        ensures zero { result.mem ≡ wiped }
     {
         Buffers {
             block: [0; BLOCK],
@@ -206,6 +207,13 @@ fn begin<W: Write>(to: &mut W, out: &mut [u8]) -> Bench
     }
 }
 
+// Another turn follows exactly where the last one has left it to.
+fn goes_on(how: Result<Next, Failed>) -> bool
+    ensures { result ≡ going_on how }
+{
+    matches!(how, Ok(Next::On))
+}
+
 // A proved loop has to end, and nothing says that the input does: it has a number of turns that no run uses up.
 fn main(rt: HostRuntime) {
     let mut stdin = rt.stdin();
@@ -215,9 +223,9 @@ fn main(rt: HostRuntime) {
     // the last step before the turn: its answer is written
     let mut safe = 0;
     for _ in 0..u64::MAX {
-        let Ok(Next::On) = b.how else {
+        if !goes_on(b.how) {
             break;
-        };
+        }
         safe = b.seat.step;
         b = turn(&mut stdin, &mut stdout, b.seat, &mut buffers);
     }

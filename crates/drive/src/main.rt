@@ -3,7 +3,7 @@
 #![tactic(auto)]
 
 use channel::Channel;
-use rules::{Action, BUFFER, Event, Kind, Level, Straps};
+use rules::{Action, BUFFER, Event, Kind, Level, Straps, event_of};
 use std::fmt;
 use steps::Op;
 
@@ -60,166 +60,189 @@ impl fmt::Display for Letters {
 
 // ---- the sheet
 
-// Steps of one channel after a reset, by the number of the sheet's line.
+// A row of the sheet: an access, or an event by document 02's number and the byte that it carries.
+#[derive(Clone, Copy)]
+enum Row {
+    Write(u8, u8),
+    Read(u8),
+    Wire(u8, u8),
+}
+
+impl Row {
+    // Its step, if the number is an event's.
+    fn op(self) -> Option<Op> {
+        match self {
+            Row::Write(a, v) => Some(Op::Write(a, v)),
+            Row::Read(a) => Some(Op::Read(a)),
+            Row::Wire(kind, value) => event_of(kind, value).map(|e| Op::Wire(e)),
+        }
+    }
+}
+
+// Rows for one channel after a reset, by the number of the sheet's line.
 #[derive(Clone, Copy)]
 struct Run {
     line: u8,
-    steps: &'static [Op],
+    rows: &'static [Row],
 }
 
-const ACK: Op = Op::Wire(Event::Ninth(Level::Low));
+const ACK: Row = Row::Wire(9, 0);
 
-const NACK: Op = Op::Wire(Event::Ninth(Level::High));
+const NACK: Row = Row::Wire(11, 0);
+
+const TICK: Row = Row::Wire(12, 0);
+
+const STOP: Row = Row::Wire(13, 0);
 
 const SHEET: [Run; 9] = [
     // Count 0, STA: no action, CONTROL and CHSTATUS 00h.
     Run {
         line: 2,
-        steps: &[
-            Op::Write(0xC4, 0x00),
-            Op::Write(0xC0, 0x40),
-            Op::Read(0xC0),
-            Op::Read(0xC1),
+        rows: &[
+            Row::Write(0xC4, 0x00),
+            Row::Write(0xC0, 0x40),
+            Row::Read(0xC0),
+            Row::Read(0xC1),
         ],
     },
     // One write, CONTROL 60h from Idle: starts, reads 40h; its STO is ignored, so the byte is sent.
     Run {
         line: 3,
-        steps: &[
-            Op::Write(0xC4, 0x01),
-            Op::Write(0xC4, 0x01),
-            Op::Write(0xC3, 0x40),
-            Op::Write(0xC5, 0x7E),
-            Op::Write(0xC0, 0x60),
-            Op::Read(0xC0),
+        rows: &[
+            Row::Write(0xC4, 0x01),
+            Row::Write(0xC4, 0x01),
+            Row::Write(0xC3, 0x40),
+            Row::Write(0xC5, 0x7E),
+            Row::Write(0xC0, 0x60),
+            Row::Read(0xC0),
             ACK,
             ACK,
-            Op::Wire(Event::Stop),
-            Op::Read(0xC0),
-            Op::Read(0xC1),
+            STOP,
+            Row::Read(0xC0),
+            Row::Read(0xC1),
         ],
     },
     // Write to 40h, length 0: S40, ACK gives P.
     Run {
         line: 4,
-        steps: &[
-            Op::Write(0xC4, 0x01),
-            Op::Write(0xC4, 0x00),
-            Op::Write(0xC3, 0x40),
-            Op::Write(0xC0, 0x40),
+        rows: &[
+            Row::Write(0xC4, 0x01),
+            Row::Write(0xC4, 0x00),
+            Row::Write(0xC3, 0x40),
+            Row::Write(0xC0, 0x40),
             ACK,
-            Op::Read(0x00),
-            Op::Read(0xC8),
+            Row::Read(0x00),
+            Row::Read(0xC8),
         ],
     },
     // Read length 0, then write 42h length 0: first action S42, STATUS 0 is 02h.
     Run {
         line: 5,
-        steps: &[
-            Op::Write(0xC4, 0x02),
-            Op::Write(0xC4, 0x00),
-            Op::Write(0xC4, 0x00),
-            Op::Write(0xC3, 0x41),
-            Op::Write(0xC3, 0x42),
-            Op::Write(0xC0, 0x40),
-            Op::Read(0x00),
-            Op::Read(0x01),
+        rows: &[
+            Row::Write(0xC4, 0x02),
+            Row::Write(0xC4, 0x00),
+            Row::Write(0xC4, 0x00),
+            Row::Write(0xC3, 0x41),
+            Row::Write(0xC3, 0x42),
+            Row::Write(0xC0, 0x40),
+            Row::Read(0x00),
+            Row::Read(0x01),
         ],
     },
     // Read 41h length 2: S41, C, A, NP.
     Run {
         line: 6,
-        steps: &[
-            Op::Write(0xC4, 0x01),
-            Op::Write(0xC4, 0x02),
-            Op::Write(0xC3, 0x41),
-            Op::Write(0xC0, 0x40),
+        rows: &[
+            Row::Write(0xC4, 0x01),
+            Row::Write(0xC4, 0x02),
+            Row::Write(0xC3, 0x41),
+            Row::Write(0xC0, 0x40),
             ACK,
-            Op::Wire(Event::Byte(0xA1)),
-            Op::Wire(Event::Byte(0xB2)),
-            Op::Read(0x00),
-            Op::Read(0xC8),
-            Op::Read(0xC5),
-            Op::Read(0xC5),
+            Row::Wire(10, 0xA1),
+            Row::Wire(10, 0xB2),
+            Row::Read(0x00),
+            Row::Read(0xC8),
+            Row::Read(0xC5),
+            Row::Read(0xC5),
         ],
     },
     // The same, STO before the ACK: C, NP, BYTECOUNT 1, STATUS 01h, CHSTATUS 80h.
     Run {
         line: 7,
-        steps: &[
-            Op::Write(0xC4, 0x01),
-            Op::Write(0xC4, 0x02),
-            Op::Write(0xC3, 0x41),
-            Op::Write(0xC0, 0x40),
-            Op::Write(0xC0, 0x20),
-            Op::Read(0xC0),
+        rows: &[
+            Row::Write(0xC4, 0x01),
+            Row::Write(0xC4, 0x02),
+            Row::Write(0xC3, 0x41),
+            Row::Write(0xC0, 0x40),
+            Row::Write(0xC0, 0x20),
+            Row::Read(0xC0),
             ACK,
-            Op::Wire(Event::Byte(0xA1)),
-            Op::Wire(Event::Stop),
-            Op::Read(0xC8),
-            Op::Read(0x00),
-            Op::Read(0xC1),
-            Op::Read(0xC0),
+            Row::Wire(10, 0xA1),
+            STOP,
+            Row::Read(0xC8),
+            Row::Read(0x00),
+            Row::Read(0xC1),
+            Row::Read(0xC0),
         ],
     },
     // FRAMECNT 2, CHSTATUS unread: C0h at the end.
     Run {
         line: 8,
-        steps: &[
-            Op::Write(0xC9, 0x02),
-            Op::Write(0xC4, 0x01),
-            Op::Write(0xC4, 0x00),
-            Op::Write(0xC3, 0x40),
-            Op::Write(0xC0, 0x40),
+        rows: &[
+            Row::Write(0xC9, 0x02),
+            Row::Write(0xC4, 0x01),
+            Row::Write(0xC4, 0x00),
+            Row::Write(0xC3, 0x40),
+            Row::Write(0xC0, 0x40),
             ACK,
-            Op::Wire(Event::Stop),
-            Op::Read(0xC0),
-            Op::Wire(Event::Tick),
+            STOP,
+            Row::Read(0xC0),
+            TICK,
             ACK,
-            Op::Wire(Event::Stop),
-            Op::Read(0xC0),
-            Op::Read(0xC1),
-            Op::Read(0xC1),
+            STOP,
+            Row::Read(0xC0),
+            Row::Read(0xC1),
+            Row::Read(0xC1),
         ],
     },
     // Writes to 40h and 42h, NACK on the first: P, CHSTATUS 20h.
     Run {
         line: 9,
-        steps: &[
-            Op::Write(0xC4, 0x02),
-            Op::Write(0xC4, 0x01),
-            Op::Write(0xC4, 0x01),
-            Op::Write(0xC3, 0x40),
-            Op::Write(0xC3, 0x42),
-            Op::Write(0xC0, 0x40),
+        rows: &[
+            Row::Write(0xC4, 0x02),
+            Row::Write(0xC4, 0x01),
+            Row::Write(0xC4, 0x01),
+            Row::Write(0xC3, 0x40),
+            Row::Write(0xC3, 0x42),
+            Row::Write(0xC0, 0x40),
             NACK,
-            Op::Wire(Event::Stop),
-            Op::Read(0x00),
-            Op::Read(0x01),
-            Op::Read(0xC0),
-            Op::Read(0xC1),
+            STOP,
+            Row::Read(0x00),
+            Row::Read(0x01),
+            Row::Read(0xC0),
+            Row::Read(0xC1),
         ],
     },
     // With INTMSK 20h: R42.
     Run {
         line: 9,
-        steps: &[
-            Op::Write(0xC2, 0x20),
-            Op::Write(0xC4, 0x02),
-            Op::Write(0xC4, 0x01),
-            Op::Write(0xC4, 0x01),
-            Op::Write(0xC3, 0x40),
-            Op::Write(0xC3, 0x42),
-            Op::Write(0xC5, 0x7E),
-            Op::Write(0xC5, 0x7F),
-            Op::Write(0xC0, 0x40),
+        rows: &[
+            Row::Write(0xC2, 0x20),
+            Row::Write(0xC4, 0x02),
+            Row::Write(0xC4, 0x01),
+            Row::Write(0xC4, 0x01),
+            Row::Write(0xC3, 0x40),
+            Row::Write(0xC3, 0x42),
+            Row::Write(0xC5, 0x7E),
+            Row::Write(0xC5, 0x7F),
+            Row::Write(0xC0, 0x40),
             NACK,
             ACK,
             ACK,
-            Op::Wire(Event::Stop),
-            Op::Read(0x00),
-            Op::Read(0x01),
-            Op::Read(0xC1),
+            STOP,
+            Row::Read(0x00),
+            Row::Read(0x01),
+            Row::Read(0xC1),
         ],
     },
 ];
@@ -228,7 +251,11 @@ fn main(rt: HostRuntime) {
     for run in &SHEET {
         let mut mem = [0u8; BUFFER];
         let mut channel = Channel::new(Straps { kind: Kind::Fm });
-        for &op in run.steps {
+        for row in run.rows {
+            let Some(op) = row.op() else {
+                let _ = println!(rt; "a row that is no event's");
+                continue;
+            };
             let stepped = channel.step(0, &mut mem, op);
             channel = stepped.channel;
             let answer = stepped.answer;

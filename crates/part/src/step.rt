@@ -1,9 +1,9 @@
 // One step of the part: of one channel, of the whole part, or of none.
-ghost use Rattle.std.specs.Prelude.{true, ◌≡◌, ◌<◌};
+ghost use Rattle.std.specs.Prelude.{true, ◌≡◌};
 ghost use Rattle.steps.specs.Facts.{InPart};
 ghost use Rattle.part.specs.State.{given};
 ghost use Rattle.part.specs.Step.{part_in, one_step, one_bytes, trigger_step, all_served, all_stored, forgetting, part_served, part_stored, part_step, part_bytes};
-ghost use Rattle.part.specs.Facts.{Whole};
+ghost use Rattle.part.specs.Facts.{Whole, OneReady};
 
 use crate::state::{Part, PartStepped};
 use interrupt::be_after;
@@ -14,8 +14,8 @@ use steps::{
 
 impl Part {
     // A step of channel c, on its own 4,352 bytes. A frame that doesn't fit shows as BE.
-    fn one(&mut self, mem: &mut [u8], c: u8, op: Op) -> PartAnswer
-        requires { Whole self.old mem.old × (c < 3) }
+    pub fn one(&mut self, mem: &mut [u8], c: u8, op: Op) -> PartAnswer
+        requires { OneReady self.old mem.old c }
         ensures { (given self.new result ≡ one_step self.old mem.old c op) × (mem.new ≡ one_bytes self.old mem.old c op) }
     {
         let i = c as usize;
@@ -50,7 +50,7 @@ impl Part {
 
     // A step of the whole part.
     #[tactic(auto, unfolding(crate::specs::Step::all_served, crate::specs::Step::all_stored))]
-    fn all(&mut self, mem: &mut [u8], t: Wide) -> PartAnswer
+    pub fn all(&mut self, mem: &mut [u8], t: Wide) -> PartAnswer
         requires { Whole self.old mem.old }
         ensures { (given self.new result ≡ all_served self.old t) × (mem.new ≡ all_stored self.old mem.old t) }
     {

@@ -6,14 +6,13 @@ mod commands;
 mod lines;
 mod typing;
 
-ghost use Rattle.std.specs.Prelude.{◌≡◌, ◌<◌, length};
+ghost use Rattle.std.specs.Prelude.{◌≡◌, ◌<◌, ◌≤◌, length};
 ghost use Rattle.seq.specs.Lines.{input_room};
 
 use files::{Fault, LARGEST};
 use lines::Tally;
 use rules::{LOCKED, NO_ROOM, NOT_A_FILE, NOWHERE};
-use std::io;
-use std::io::Cursor;
+use std::io::Read;
 
 // All of the input has to be shorter (`input_room`).
 const INPUT: usize = 1048576;
@@ -104,13 +103,28 @@ fn input() -> [u8; INPUT]
     [0; INPUT]
 }
 
+// Reads until the buffer is full, the input ends or a read fails, and gives how many bytes it put at the buffer's start. By hand, into the buffer itself:
+// `io::copy` reads once more when the buffer is full, takes bytes that have no room, and keeps 8,192 of a message at most.
+fn read_full(input: &mut impl Read, buf: &mut [u8]) -> usize
+    ensures { result ≤ length buf.new }
+{
+    let mut done = 0;
+    while done < buf.len() {
+        let Ok(n) = input.read(&mut buf[done..]) else {
+            break;
+        };
+        if n == 0 {
+            break;
+        }
+        done += n;
+    }
+    done
+}
+
 fn main(rt: HostRuntime) {
     let mut all = input();
-    let mut read = Cursor::new(&mut all[..]);
-    // a read that fails ends the input
-    let _ = io::copy(&mut rt.stdin(), &mut read);
-    let n = read.position() as usize;
-    if INPUT <= n {
+    let n = read_full(&mut rt.stdin(), &mut all);
+    if n == INPUT {
         let _ = eprintln!(rt; "seq: standard input has more than 1,048,568 bytes");
         return;
     }

@@ -6,10 +6,12 @@
 
 mod case;
 
+ghost use Rattle.std.specs.Prelude.{◌≤◌, length};
+
 use case::Case;
 use rules::{Device, Edge};
-use std::io::Cursor;
-use std::{io, str};
+use std::io::Read;
+use std::str;
 use steps::{Op, Step};
 
 // The most bytes of rows.
@@ -57,12 +59,27 @@ fn answer(out: &impl Print, row: &[u8]) {
     };
 }
 
+// Reads until the buffer is full, the input ends or a read fails, and gives how many bytes it put at the buffer's start. By hand, into the buffer itself:
+// `io::copy` reads once more when the buffer is full, takes bytes that have no room, and keeps 8,192 of a message at most.
+fn read_full(input: &mut impl Read, buf: &mut [u8]) -> usize
+    ensures { result ≤ length buf.new }
+{
+    let mut done = 0;
+    while done < buf.len() {
+        let Ok(n) = input.read(&mut buf[done..]) else {
+            break;
+        };
+        if n == 0 {
+            break;
+        }
+        done += n;
+    }
+    done
+}
+
 fn main(rt: HostRuntime) {
     let mut text = [0; ROOM];
-    let mut input = Cursor::new(&mut text[..]);
-    // a read that fails ends the input
-    let _ = io::copy(&mut rt.stdin(), &mut input);
-    let n = ROOM.min(input.position() as usize);
+    let n = read_full(&mut rt.stdin(), &mut text);
     for line in text[..n].split_inclusive(|&b| b == b'\n') {
         let row = line.strip_suffix(b"\n").unwrap_or(line);
         if !row.starts_with(b"#") {

@@ -1,5 +1,5 @@
 -- The pieces that the program reads and hands to `write` are a script and its output.
-use Rattle.std.specs.Prelude.{ℕ, List, [], ◌++◌, ◌≡◌, refl, Result, Ok, Err}
+use Rattle.std.specs.Prelude.{ℕ, true, List, [], ◌++◌, ◌≡◌, refl, Result, Ok, Err}
 use Rattle.std.proofs.Common.{append-nil, append_assoc, sym, ◌∙◌, ap}
 use Rattle.std.proofs.Math.Seq.{take-nil}
 use Rattle.script.specs.Grammar.{line_room}
@@ -13,10 +13,15 @@ use Rattle.bench.specs.declared.Next.{Next}
 use Rattle.bench.specs.declared.Next.TheVariants.{On, Ended}
 use Rattle.bench.specs.declared.Failed.{Failed}
 use Rattle.bench.specs.declared.Failed.TheVariants.{Unread, Unwritten}
-use Rattle.bench.specs.Talk.{sitting_of, Written, Talk}
+use Rattle.bench.specs.Talk.{sitting_of, Written, going_on, Talk}
 use Rattle.bench.specs.Talk.Written.{taken, lost}
 use Rattle.bench.specs.Talk.Turned.{read, ended, unread}
 use Rattle.bench.specs.Talk.Talk.{begun, more}
+
+pub going_on_lem : (how : Result Next Failed) → going_on how ≡ true → how ≡ Ok On
+going_on_lem (Ok On) e = refl
+going_on_lem (Ok Ended) e = cc
+going_on_lem (Err x) e = cc
 
 -- a program that goes on as meant, unless a write failed, does not go on otherwise
 no_other : {A : Type 0} (next : Next) (how want : Result Next Failed) → (Ok next ≡ want → ⊥) → (Err Unwritten ≡ want → ⊥) → Written next how → how ≡ want → A

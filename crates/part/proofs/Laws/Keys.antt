@@ -59,7 +59,7 @@ module _ (p : Part) (c i : ℕ) (l : List Channel) (a : 3 ≤ i) (b : i ≤ 3) (
       let key : (if eqb c 3 then p.key else false) ≡ p.key = sym (pick_true _ _ _ _ (eq-eqb c 3 h) refl) in
       rw (channels_left, key)
 
-  pub none_left : (c ≡ 3 → ⊥) → record { channels = l; be = p.be; mask = p.mask; key = false } ≡ forgotten p c
-  none_left h =
+  pub part_left : (c ≡ 3 → ⊥) → record { channels = l; be = p.be; mask = p.mask; key = false } ≡ forgotten p c
+  part_left h =
       let key : (if eqb c 3 then p.key else false) ≡ false = sym (pick-false _ _ _ _ (ne_eqb c 3 h) refl) in
       rw (channels_left, key)

@@ -86,16 +86,16 @@ module _ (p : Part) (three : length p.channels ≡ 3) where
       let key : (if eqb c 3 then p.key else false) ≡ p.key = pick_holds (λ (x : Bool). x ≡ p.key) (eqb c 3) (λ _. refl) (λ _. sym d.1) in
       rw (but_same c a.0 b.0 d.0, key)
 
-  forgets_none : keyed_of p ≡ false → (t : Target) → forgetting t p ≡ p
+  pub none_left : keyed_of p ≡ false → (t : Target) → forgetting t p ≡ p
   unfolding forgetting
-  forgets_none e = left_of_lem (λ (x : Part). x ≡ p) forgotten p refl (forgotten_same e)
+  none_left e = left_of_lem (λ (x : Part). x ≡ p) forgotten p refl (forgotten_same e)
 
   -- a step forgets no key where it may forget none
   pub none_asked : (t : Target) → may_forget p t ≡ false → forgetting t p ≡ p
   unfolding forgetting
-  none_asked (All t) e = forgets_none e (All t)
+  none_asked (All t) e = none_left e (All t)
   none_asked (One op c) e = by_writing (op_writes op) refl e
     where
       by_writing : (b : Bool) → op_writes op ≡ b → (if b then keyed_of p else false) ≡ false → forgetting (One op c) p ≡ p
-      by_writing true w k = forgets_none k (One op c)
+      by_writing true w k = none_left k (One op c)
       by_writing false w k = rw w

@@ -20,11 +20,9 @@ use Rattle.channel.specs.State.{Served, leaving, stepped}
 use Rattle.channel.specs.Step.{served_by}
 use Rattle.channel.specs.Wires.{triggered}
 use Rattle.part.specs.declared.state.Part.{Part}
-use Rattle.part.specs.State.{blank, chan, put_window, given}
+use Rattle.part.specs.State.{blank, chan, window, put_window, given}
 use Rattle.part.specs.Step.{one_after, answer_at, one_told, one_step, one_bytes, edge_channel, edge_act, edge_be, trigger_step, channels_in, part_in}
-use Rattle.part.specs.Facts.{Whole}
 use Rattle.part.proofs.Laws.Each.{put_first, next_first, one_first, all_first}
-use Rattle.part.proofs.Laws.Kept.{chan_accepted}
 use Rattle.part.proofs.Laws.Memory.{window_cut, window_put}
 use Rattle.part.proofs.Laws.Range.{chan-in_range}
 
@@ -43,8 +41,8 @@ module _ (p : Part) (m : List ℕ) (c : ℕ) where
   abbrev Cut : List ℕ
   Cut = take ((buffer_size * c + buffer_size) - buffer_size * c) (drop (buffer_size * c) m)
 
-  pub cut_accepted : Whole p m → c < 3 → Accepted (chan p c) Cut
-  cut_accepted w h = rw (window_cut c m) (chan_accepted p m c h w)
+  pub cut_accepted : Accepted (chan p c) (window c m) → Accepted (chan p c) Cut
+  cut_accepted w = rw (window_cut c m) w
 
   pub one_served_in : (op : Op) (x : Channel) (a : Answer) (l : List ℕ) → leaving l (stepped x a) ≡ served_by (chan p c) Cut c op
       → (given (one_after p c x (be_after p.be a.number)) (answer_at c a) ≡ one_step p m c op)

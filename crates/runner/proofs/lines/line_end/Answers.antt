@@ -1,5 +1,5 @@
 -- `runner::lines::line_end` meets its contract: `position` runs over the bytes from the place on.
-use Rattle.std.proofs.Common.{ℕ, ◌+◌, ◌-◌, ◌≡◌, ◌∙◌, ap, arith, eqb, length, take, drop, take_all, length-drop, rules, tests}
+use Rattle.std.proofs.Common.{ℕ, ◌+◌, ◌-◌, ◌≡◌, ◌∙◌, arith, eqb, length, take, drop, take_all, length-drop, rules, tests}
 use Rattle.std.proofs.lemmas.Iterator.{YieldsList-from_slice}
 use Rattle.std.proofs.lemmas.Iterator.Search.{position_from_yields_List}
 use Rattle.runner.specs.Lines.{line_end}
@@ -12,11 +12,12 @@ returns-in-Some c =
     let block = c.args.block.now in
     let from = c.args.from in
     let whole : take (length block - from) (drop from block) ≡ drop from block = take_all _ _ (omega (arith, length-drop from block)) in
-    ap (λ (n : ℕ). from + n)
-    (lf_found (drop from block) c.position.result
+    let e =
+    lf_found (drop from block) c.position.result
     (position_from_yields_List (λ (b : ℕ). eqb b 10) c.position.new.self _ _ c.position.ensures.ran (YieldsList-from_slice (drop from block) (c.iter.ensures.rest ∙ whole))
     (λ x b q k. search (rules, tests)))
-    c.in-Some.n c.in-Some.is)
+    c.in-Some.n c.in-Some.is in
+    omega (arith, e)
 
 pub returns-in-None : goal.returns-in-None
 unfolding line_end

@@ -3,7 +3,7 @@ use Rattle.std.proofs.Common.{◌≡◌, ◌<◌, ◌∙◌, sym, arith, length}
 use Rattle.std.proofs.lemmas.List.{set-get_or}
 use native.Mathlib.Numerals.{add-one}
 use Rattle.part.specs.State.{blank}
-use Rattle.part.proofs.Laws.Keys.{own_stays, other_goes, own_left, none_left}
+use Rattle.part.proofs.Laws.Keys.{own_stays, other_goes, own_left, part_left}
 use Rattle.part.proofs.state.Part.forget_but.Goals.{then-i-c, else-i-c}
 use Rattle.part.proofs.state.Part.forget_but.Goals as goal
 
@@ -19,7 +19,7 @@ loop-i-preserved c =
 pub returns-then-c-ne3 : goal.returns-then-c-ne3
 returns-then-c-ne3 c =
     let three : length c.args.self.now.channels ≡ 3 = omega arith in
-    none_left c.args.self.now c.args.c c.loop-i.i _ c.loop-i-test.false c.loop-i.auto.i-end three c.loop-i.invariant c.if-c-ne3.true
+    part_left c.args.self.now c.args.c c.loop-i.i _ c.loop-i-test.false c.loop-i.auto.i-end three c.loop-i.invariant c.if-c-ne3.true
 
 pub returns-else-c-ne3 : goal.returns-else-c-ne3
 returns-else-c-ne3 c =

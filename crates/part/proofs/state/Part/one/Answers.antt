@@ -3,7 +3,7 @@ use Rattle.part.proofs.Laws.Steps.{cut_accepted, one_served_in}
 use Rattle.part.proofs.state.Part.one.Goals as goal
 
 pub serve-a-requires : goal.serve-a-requires
-serve-a-requires c = cut_accepted c.args.self.now c.args.mem.now c.args.c c.requires.0 c.requires.1
+serve-a-requires c = cut_accepted c.args.self.now c.args.mem.now c.args.c c.requires.accepted
 
 pub returns : goal.returns
 returns c =

@@ -1,0 +1,4 @@
+pub mod Rules
+pub mod Sequence
+pub mod Head
+pub mod Part
